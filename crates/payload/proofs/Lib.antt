@@ -1,0 +1,10 @@
+pub mod Tests
+pub mod Walk
+pub mod RateTables
+pub mod Rows
+pub mod Answers
+pub mod Stores
+pub mod Opened
+pub mod Law
+pub mod Numbers
+pub mod Words
