@@ -12,9 +12,9 @@ use lib.Dec.{T, eqb, leb}
 use lib.ListN.{length, getD, take, drop, length-append}
 use lib.Seq.{take-at, drop-at, drop-drop, getD-drop}
 use borrow.Author.Tests.{eq-eqb, leb-true}
-use Rattle.payload.specs.Test.{pick, both, allZero}
+use Rattle.payload.specs.Test.{both, allZero}
 use Rattle.payload.specs.Layout.{Fields, cv, ffd, fdi, bdi, headOf, ttsiOf, tailOf, bodyOf, bip, run, octetsOf, isType, isTtsi, valid, Valid}
-use Rattle.payload.specs.Writing.{fieldsOf, mayWrite, writeOf}
+use Rattle.payload.specs.Writing.{fieldsOf, mayWrite, outcome, writeOf}
 use Rattle.payload.specs.Reading.{Answer, shown, fieldsAt, wordAt, longAt, clear, bipRight, readOf, accepts, ttsiAt}
 use Rattle.payload.specs.Law.{Octets, Reads, Gives, Demand2}
 use Rattle.payload.proofs.Tests.{T-true, both-left, both-right, both-yes}
@@ -166,10 +166,10 @@ module _ (ty : ℕ) (t : List ℕ) (r dt dl : ℕ) (b : List ℕ) where
   passed-both : writeOf ty t r dt dl b .0 ≡ 0 → (mayWrite ty given ≡ true) × (leb 44 (length b) ≡ true)
   passed-both h = go (mayWrite ty given) (leb 44 (length b)) h
     where
-      go : (m k : Bool) → pick {A = ℕ × List ℕ} m (pick k (0, octetsOf given ++ drop 44 b) (11, b)) (12, b) .0 ≡ 0 → (m ≡ true) × (k ≡ true)
+      go : (may fits : Bool) → outcome may fits given b .0 ≡ 0 → (may ≡ true) × (fits ≡ true)
       go true true e = (refl, refl)
       go true false e = absurd (omega arith)
-      go false k e = absurd (omega arith)
+      go false fits e = absurd (omega arith)
 
   written-then-read : writeOf ty t r dt dl b .0 ≡ 0 → Reads (take 44 (writeOf ty t r dt dl b .1)) (fieldsOf ty t r dt dl)
   written-then-read h =

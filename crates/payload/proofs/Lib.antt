@@ -6,5 +6,6 @@ pub mod Answers
 pub mod Stores
 pub mod Opened
 pub mod Law
-pub mod Numbers
+pub mod Promises
+pub mod Cases
 pub mod Words

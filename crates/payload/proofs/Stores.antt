@@ -12,9 +12,8 @@ use lib.ListN.{length, getD, set, take, drop, replicate, length-append, drop-of-
 use lib.Seq.{sets-eq, take-at, drop-at, drop-drop, take-take, take-length, drop-length}
 use borrow.Author.Tests.{lt-leb, le-leb}
 use borrow.Rule.Slice.PartMut.{putMid}
-use Rattle.payload.specs.Test.{pick}
 use Rattle.payload.specs.Layout.{Fields, headOf, ttsiOf, tailOf, bip, octetsOf}
-use Rattle.payload.specs.Writing.{fieldsOf, wordOf, mayWrite, writeOf}
+use Rattle.payload.specs.Writing.{fieldsOf, wordOf, mayWrite, outcome, writeOf}
 use Rattle.payload.proofs.Rows.{may-type, may-long, head-long, tail-long, head-is, ttsi-is}
 
 -- ---- the loops
@@ -86,12 +85,8 @@ module _ (ty : ℕ) (t : List ℕ) (r dt dl : ℕ) (b : List ℕ) where
   abbrev given : Fields
   given = fieldsOf ty t r dt dl
 
-  -- the answer by its two tests
-  abbrev by : Bool → Bool → ℕ × List ℕ
-  by m k = pick m (pick k (0, octetsOf given ++ drop 44 b) (11, b)) (12, b)
-
-  write-by : (m k : Bool) → mayWrite ty given ≡ m → leb 44 (length b) ≡ k → by m k ≡ writeOf ty t r dt dl b
-  write-by m k p q = ap₂ by (sym p) (sym q)
+  write-by : (may fits : Bool) → mayWrite ty given ≡ may → leb 44 (length b) ≡ fits → outcome may fits given b ≡ writeOf ty t r dt dl b
+  write-by may fits p q = ap₂ (λ (m k : Bool). outcome m k given b) (sym p) (sym q)
 
   pub refused-12 : mayWrite ty (fieldsOf ty t r dt dl) ≡ false → (12, b) ≡ writeOf ty t r dt dl b
   refused-12 h = write-by false (leb 44 (length b)) h refl

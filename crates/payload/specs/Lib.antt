@@ -5,3 +5,5 @@ pub mod Rates
 pub mod Writing
 pub mod Reading
 pub mod Law
+pub mod Promises
+pub mod Cases

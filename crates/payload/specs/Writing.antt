@@ -1,7 +1,7 @@
 -- Writing from fields: what the call answers, and what it leaves in the octets lent to it.
 -- Assumes nothing.
 use Prim.Native.Nat.{ℕ}
-use mathlib.Core.Bool.{Bool}
+use mathlib.Core.Bool.{Bool, true, false}
 use mathlib.Core.List.{List, _++_}
 use lib.Dec.{eqb, leb}
 use lib.ListN.{length, drop}
@@ -19,9 +19,14 @@ mayWrite ty f = both (isType ty) (valid f)
 abbrev pub wordOf : ℕ → ℕ → ℕ
 wordOf ty dt = pick (eqb ty 1) 0 (pick (eqb ty 7) 0 dt)
 
--- the number, and the lent octets b afterwards
+-- the number, and the lent octets b afterwards: may says that the fields may be written, fits that 44 octets are lent
+abbrev pub outcome : (may fits : Bool) → Fields → List ℕ → ℕ × List ℕ
+outcome false fits f b = (12, b)
+outcome true false f b = (11, b)
+outcome true true f b = (0, octetsOf f ++ drop 44 b)
+
 abbrev pub written : ℕ → Fields → List ℕ → ℕ × List ℕ
-written ty f b = pick (mayWrite ty f) (pick (leb 44 (length b)) (0, octetsOf f ++ drop 44 b) (11, b)) (12, b)
+written ty f b = outcome (mayWrite ty f) (leb 44 (length b)) f b
 
 abbrev pub writeOf : ℕ → List ℕ → ℕ → ℕ → ℕ → List ℕ → ℕ × List ℕ
 writeOf ty t r dt dl b = written ty (fieldsOf ty t r dt dl) b

@@ -9,15 +9,20 @@ pub const LENGTH: usize = 44;
 
 // Offsets: the TTSI, what a row has of its own (rate or defect location), BIP16.
 pub(crate) const TTSI: usize = 4;
+
 pub(crate) const OWN: usize = 24;
+
 pub(crate) const BIP: usize = 42;
 
 pub struct FunctionType;
 
 impl FunctionType {
     pub const CV: u8 = 0x01;
+
     pub const FDI: u8 = 0x02;
+
     pub const BDI: u8 = 0x03;
+
     pub const FFD: u8 = 0x07;
 
     pub(crate) fn is_type(ty: u8) -> bool
@@ -40,11 +45,17 @@ pub struct DefectType;
 
 impl DefectType {
     pub const SERVER: u16 = 0x0101;
+
     pub const PEER_ME: u16 = 0x0102;
+
     pub const LOCV: u16 = 0x0201;
+
     pub const MISMATCH: u16 = 0x0202;
+
     pub const MISMERGE: u16 = 0x0203;
+
     pub const EXCESS: u16 = 0x0204;
+
     pub const UNKNOWN: u16 = 0x02FF;
 
     // Whether the number is one of the seven.

@@ -6,17 +6,27 @@ pub struct Rate;
 
 impl Rate {
     pub const INTERVAL_1: u16 = 10;
+
     pub const INTERVAL_2: u16 = 20;
+
     pub const INTERVAL_3: u16 = 50;
+
     pub const INTERVAL_4: u16 = 100;
+
     pub const INTERVAL_5: u16 = 200;
+
     pub const INTERVAL_6: u16 = 500;
 
     pub const LIFE_1: u16 = 300;
+
     pub const LIFE_2: u16 = 150;
+
     pub const LIFE_3: u16 = 60;
+
     pub const LIFE_4: u16 = 30;
+
     pub const LIFE_5: u16 = 15;
+
     pub const LIFE_6: u16 = 6;
 
     // Whether the code is a rate's.
@@ -65,7 +75,9 @@ pub struct Kind;
 
 impl Kind {
     pub const CV: u8 = 0;
+
     pub const CV_SLOT: u16 = 1000;
+
     pub const CV_LIFE: u16 = 3;
 
     // Whether the number is a kind.

@@ -7,13 +7,13 @@ ghost use denote.Ref.{ptr};
 ghost use Rattle.payload.specs.Test.{allZero};
 ghost use Rattle.payload.specs.Writing.{fieldsOf};
 ghost use Rattle.payload.specs.Reading.{answerOf, shown, bipRight, clearFrom, blankFrom, clear, rowOf, readOf, ttsiPart};
-use crate::layout::LENGTH;
-use crate::layout::TTSI;
-use crate::layout::OWN;
+use crate::bip16::every_second;
 use crate::layout::BIP;
 use crate::layout::FunctionType;
+use crate::layout::LENGTH;
+use crate::layout::OWN;
+use crate::layout::TTSI;
 use crate::layout::may_write;
-use crate::bip16::every_second;
 
 // What a payload says, its TTSI apart, or the number of its refusal.
 pub enum Found {

@@ -5,13 +5,13 @@ ghost use Prim.Native.Nat.{ℕ, _/_, _%_};
 ghost use lib.ListN.{length, take, replicate};
 ghost use Rattle.payload.specs.Layout.{bip, tailOf};
 ghost use Rattle.payload.specs.Writing.{fieldsOf, wordOf, writeOf};
-use crate::layout::LENGTH;
-use crate::layout::TTSI;
-use crate::layout::OWN;
+use crate::bip16::every_second;
 use crate::layout::BIP;
 use crate::layout::FunctionType;
+use crate::layout::LENGTH;
+use crate::layout::OWN;
+use crate::layout::TTSI;
 use crate::layout::may_write;
-use crate::bip16::every_second;
 
 fn fill(s: &mut [u8])
     ensures { λ _. ⌜ now (s .exit) ≡ replicate (length (now (s .entry))) 0 ⌝ }
