@@ -19,7 +19,7 @@ pub struct Closed {
     pub number: u8,
     pub defect: Defect,
     pub out: Out,
-    pub record: Record,
+    pub handed: Record,
     pub next: Lsp,
 }
 
@@ -123,13 +123,13 @@ impl Lsp {
                     alarm: false,
                     suppression: false,
                 },
-                record: Record::Nothing,
+                handed: Record::Nothing,
                 next: self,
             };
         }
         let after = turned.state;
         let defect = after.defect;
-        let record = turned.record;
+        let handed = turned.handed;
         let fdi = self.fdi;
         let mut next = self;
         next.state = after;
@@ -138,7 +138,7 @@ impl Lsp {
             number: 0,
             defect,
             out: next.out(),
-            record,
+            handed,
             next,
         }
     }

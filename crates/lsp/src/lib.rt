@@ -5,7 +5,7 @@
 mod close;
 mod path;
 mod receive;
-mod sound;
+
 mod write;
 
 pub use close::Closed;

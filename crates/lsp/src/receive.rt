@@ -13,8 +13,8 @@ pub struct Received {
     pub next: Lsp,
 }
 
-fn same_octets(a: &[u8], b: &[u8; 20]) -> bool
-    ensures { λ r. ⌜ r ≡ same (now (a .entry)) (now (b .entry)) ⌝ }
+fn same_octets(a: &[u8], b: [u8; 20]) -> bool
+    ensures { λ r. ⌜ r ≡ same (now (a .entry)) b ⌝ }
 {
     if a.len() != 20 {
         return false;
@@ -37,7 +37,7 @@ impl Lsp {
         let state = self.state;
         let mut next = self;
         let ttsi = self.ttsi;
-        if !same_octets(t, &ttsi) {
+        if !same_octets(t, ttsi) {
             next.state = state.receive(false);
             return Received { found, next };
         }
