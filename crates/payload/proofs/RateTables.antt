@@ -5,8 +5,9 @@ use mathlib.Core.List.{List, _∷_}
 use Prim.Native.Nat.{ℕ, zero, suc, _≤_}
 use native.Mathlib.Omega.{arith}
 use borrow.Author.Tests.{ne-eqb, leb-true, leb-false}
-use lib.Dec.{leb}
+use lib.Dec.{eqb, leb, lit≤}
 use lib.ListN.{length, getD, List·getD-eq-default}
+use Rattle.payload.specs.Test.{pick}
 use Rattle.payload.specs.Rates.{intervals, lives, intervalOf, rateLifeOf, slotOf, lifeOf, ThreeSeconds}
 
 -- a code that is none of a list's places after the first has 0
@@ -39,3 +40,20 @@ three-seconds (suc (suc (suc (suc zero)))) h = refl
 three-seconds (suc (suc (suc (suc (suc zero))))) h = refl
 three-seconds (suc (suc (suc (suc (suc (suc zero)))))) h = refl
 three-seconds (suc (suc (suc (suc (suc (suc (suc k))))))) h = absurd (omega arith)
+
+rate-life-most : (r : ℕ) → rateLifeOf r ≤ 300
+rate-life-most zero = lit≤ tt
+rate-life-most (suc zero) = lit≤ tt
+rate-life-most (suc (suc zero)) = lit≤ tt
+rate-life-most (suc (suc (suc zero))) = lit≤ tt
+rate-life-most (suc (suc (suc (suc zero)))) = lit≤ tt
+rate-life-most (suc (suc (suc (suc (suc zero))))) = lit≤ tt
+rate-life-most (suc (suc (suc (suc (suc (suc zero)))))) = lit≤ tt
+rate-life-most (suc (suc (suc (suc (suc (suc (suc r))))))) = lit≤ tt
+
+pub life-most : (k : ℕ) → lifeOf k ≤ 300
+life-most k = go (eqb k 0)
+  where
+    go : (b : Bool) → pick b 3 (rateLifeOf k) ≤ 300
+    go true = lit≤ tt
+    go false = rate-life-most k

@@ -4,10 +4,10 @@
 // `specs/Layout.antt` says what the octets are, `specs/Law.antt` what is proved of reading and writing together.
 // Nothing here keeps a state, copies a payload or asks anything of its caller.
 mod bip16;
-mod layout;
-mod rates;
-mod reading;
-mod writing;
+pub mod layout;
+pub mod rates;
+pub mod reading;
+pub mod writing;
 
 pub use layout::DefectType;
 pub use layout::FunctionType;
