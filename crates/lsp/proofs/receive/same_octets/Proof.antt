@@ -20,10 +20,10 @@ use Rattle.lsp.proofs.receive.same_octets.Lts as lts
 -- src/receive.rt:16:1
 
 abbrev Inv-loop : tie.InvT-loop
-Inv-loop a b i₀ i = ?
+Inv-loop a b i₀ i = (same (drop i a) (drop i b) ≡ same a b) × (i ≤ 20)
 
 abbrev μ-loop : tie.MeasureT-loop
-μ-loop a b i₀ i = ?
+μ-loop a b i₀ i = 20 - i
 
 returns : tie.Need-returns Inv-loop μ-loop
 returns c = 
@@ -42,7 +42,7 @@ array-read-if2 c = search needs
 
 returns-2 : tie.Need-returns-2 Inv-loop μ-loop
 returns-2 c = 
-    let loop = c .before .before .before .before in
+    let loop = c .before .before .before in
     let a = loop .before .before .args in
     let n : length (a .t2) ≡ 20 = search needs in
     sym (same-stop (a .a .now) (a .t2) (loop .loop .i) (omega arith) (omega arith) (c .if2 .taken)) ∙ loop .loop .inv .0
@@ -55,7 +55,7 @@ loop-less c = search needs
 
 loop-again : tie.Need-loop-again Inv-loop μ-loop
 loop-again c = 
-    let loop = c .before .before .before .before in
+    let loop = c .before .before .before in
     let a = loop .before .before .args in
     let n : length (a .t2) ≡ 20 = search needs in
     (sym (same-turn (a .a .now) (a .t2) (loop .loop .i) (omega arith) (omega arith) (c .if2 .left)) ∙ loop .loop .inv .0, omega arith)
