@@ -29,10 +29,23 @@ fn same_octets(a: &[u8], b: [u8; 20]) -> bool
     true
 }
 
+// The rate of an FFD; every other answer has none.
+fn rate_of(found: Found) -> u8
+    ensures { λ r. ⌜ r ≡ answerOf found .rate ⌝ }
+{
+    match found {
+        Found::Cv => 0,
+        Found::Ffd { rate } => rate,
+        Found::Fdi { dt: _, dl: _ } => 0,
+        Found::Bdi { dt: _, dl: _ } => 0,
+        Found::Refused { number: _ } => 0,
+    }
+}
+
 impl Lsp {
     // A CV or FFD packet: with another TTSI it is unexpected; with the expected one it is of the path's own type and rate, or 6.
-    fn counted(self, found: Found, rate: u8, t: &[u8]) -> Received
-        ensures { λ r. ⌜ (answerOf found .rate ≡ rate → (answerOf (r .found), r .next) ≡ countedOf self (answerOf found) (now (t .entry))) ⌝ }
+    fn counted(self, found: Found, t: &[u8]) -> Received
+        ensures { λ r. ⌜ (answerOf (r .found), r .next) ≡ countedOf self (answerOf found) (now (t .entry)) ⌝ }
     {
         let state = self.state;
         let mut next = self;
@@ -41,7 +54,7 @@ impl Lsp {
             next.state = state.receive(false);
             return Received { found, next };
         }
-        if rate != self.kind {
+        if rate_of(found) != self.kind {
             return Received {
                 found: Found::Refused { number: 6 },
                 next: self,
@@ -68,8 +81,8 @@ impl Lsp {
     {
         let found = payload::read(p);
         match found {
-            Found::Cv => self.counted(found, 0, payload::ttsi(p)),
-            Found::Ffd { rate } => self.counted(found, rate, payload::ttsi(p)),
+            Found::Cv => self.counted(found, payload::ttsi(p)),
+            Found::Ffd { rate: _ } => self.counted(found, payload::ttsi(p)),
             Found::Fdi { dt, dl } => Received {
                 found,
                 next: self.told(dt, dl),
