@@ -1,3 +1,5 @@
 pub mod Parts
 pub mod Same
 pub mod Receives
+pub mod Follows
+pub mod Theorem

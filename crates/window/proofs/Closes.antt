@@ -7,7 +7,6 @@ use native.Mathlib.Numerals.{add-one}
 use lib.Dec.{leb}
 use borrow.Author.Tests.{le-leb, lt-leb}
 use Rattle.rules.specs.Machine as machine
-use Rattle.rules.specs.Rules.{mismatch, mismerge, locv, excess}
 use Rattle.rules.specs.Machine.{countUp, receive, shift, verdict, defectAfter, stoodAfter, calm}
 use Rattle.rules.specs.Machine.{closeDefect, closeStood, closeCalm, closeTurn, close, handedOut}
 use Rattle.window.specs.Sums.{sumsOf}
@@ -21,7 +20,7 @@ use Rattle.window.specs.declared.state.State.{State}
 use Rattle.window.specs.declared.sums.Sums.{Sums}
 use Rattle.window.specs.declared.close.Turn.{Turn}
 use Rattle.window.specs.declared.close.Turned.{Turned}
-use Rattle.window.proofs.Views.{out-in, available-out-in}
+use Rattle.window.proofs.Views.{out-in, in-out, available-out-in}
 
 abbrev made : ℕ → List ℕ → List ℕ → Defect → ℕ → Availability → State
 made n e u d t a = record { closed = n; e = e; u = u; defect = d; stood = t; availability = a }
@@ -54,13 +53,6 @@ module _ (cv : Bool) (n : ℕ) (s : State) (after : Defect) (t : ℕ) (b : Bool)
   judged-as a w h e k = rw (h, e) k
 
 -- ---- the close
-
-in-out : (d : machine.Defect) → defectIn (defectOut d) ≡ d
-in-out machine.none = refl
-in-out (machine.stands mismatch) = refl
-in-out (machine.stands mismerge) = refl
-in-out (machine.stands locv) = refl
-in-out (machine.stands excess) = refl
 
 pub at-limit : (cv : Bool) (s : State) → 1000000000000 ≤ s .closed → record { number = 9; state = s; handed = Nothing } ≡ turnedOf cv s
 at-limit cv s h = rw (le-leb 1000000000000 (s .closed) h)

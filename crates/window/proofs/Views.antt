@@ -1,14 +1,17 @@
--- A defect seen and seen back is itself; what each test of a close says of it. Assumes nothing.
-use mathlib.Core.Path.{_≡_, refl, sym}
+-- The struct and the machine's state are the same thing seen from two sides; what each test of a close says of a defect. Assumes nothing.
+use mathlib.Core.Path.{_≡_, refl, ap, sym, _∙_}
 use mathlib.Core.Bool.{Bool, true, false, _&&_, cond}
 use Prim.Native.Nat.{ℕ, _+_, _≤_, _<_, min}
 use native.Mathlib.Omega.{arith}
 use lib.Dec.{leb, eqb}
 use borrow.Author.Tests.{le-leb, lt-leb}
+use Rattle.rules.specs.Rules.{mismatch, mismerge, locv, excess, Record, nothing, U, B}
+use Rattle.rules.specs.Machine as machine
 use Rattle.rules.specs.Machine.{verdict, judge, defectAfter, stoodAfter, calm}
-use Rattle.window.specs.View.{defectIn, defectOut, availabilityIn, availabilityOut, standing}
+use Rattle.window.specs.View.{defectIn, defectOut, availabilityIn, availabilityOut, recordIn, recordOut, view, stateOut, standing}
 use Rattle.window.specs.declared.state.Defect.{Defect}
 use Rattle.window.specs.declared.state.Defect.the-variants.{Clear, Mismatch, Mismerge, Locv, Excess}
+use Rattle.window.specs.declared.state.State.{State}
 use Rattle.window.specs.declared.state.Availability.{Availability}
 use Rattle.window.specs.declared.state.Availability.the-variants.{Available, Unavailable}
 
@@ -22,6 +25,31 @@ out-in Excess = refl
 pub available-out-in : (a : Availability) → a ≡ availabilityOut (availabilityIn a)
 available-out-in Available = refl
 available-out-in (Unavailable since) = refl
+
+pub in-out : (d : machine.Defect) → defectIn (defectOut d) ≡ d
+in-out machine.none = refl
+in-out (machine.stands mismatch) = refl
+in-out (machine.stands mismerge) = refl
+in-out (machine.stands locv) = refl
+in-out (machine.stands excess) = refl
+
+available-in-out : (a : machine.Availability) → availabilityIn (availabilityOut a) ≡ a
+available-in-out machine.available = refl
+available-in-out (machine.unavailable since) = refl
+
+pub view-out : (s : machine.State) → view (stateOut s) ≡ s
+view-out s = simp (in-out (s .defect), available-in-out (s .availability))
+
+pub out-view : (s : State) → stateOut (view s) ≡ s
+out-view s = simp (← out-in (s .defect), ← available-out-in (s .availability))
+
+pub record-out-one : (r q : Record) → recordOut r ≡ recordOut q → r ≡ q
+record-out-one r q e = sym (back r) ∙ ap recordIn e ∙ back q
+  where
+    back : (x : Record) → recordIn (recordOut x) ≡ x
+    back nothing = refl
+    back (U from until) = refl
+    back (B from until) = refl
 
 -- ---- the defect after a close
 

@@ -51,6 +51,11 @@ recordOut rules.nothing = Nothing
 recordOut (rules.U from until) = U from until
 recordOut (rules.B from until) = B from until
 
+abbrev pub recordIn : Record → rules.Record
+recordIn Nothing = rules.nothing
+recordIn (U from until) = rules.U from until
+recordIn (B from until) = rules.B from until
+
 -- ---- the state, and what a close makes of it
 
 abbrev pub view : State → machine.State
