@@ -179,7 +179,7 @@ module _ (a : Added) (l : Lsp) (h : History) (f : Follows a l h) where
   unfolding stateOf
   next-state = view-out (nextState l) ∙ ap₂ machine.close (same-kind a l h f) (f .state)
 
-  one-more : Follows a (closedWell l .next) (closes ∷ h)
+  pub one-more : Follows a (closedWell l .next) (closes ∷ h)
   one-more =
       record {
         kind = f .kind;

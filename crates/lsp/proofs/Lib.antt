@@ -3,3 +3,4 @@ pub mod Same
 pub mod Receives
 pub mod Follows
 pub mod Theorem
+pub mod Promises

@@ -61,8 +61,8 @@ module _ (l : Lsp) where
   pub out-own : l .server ≡ false → l .fdi .left < 1 → outIs 0x0201 (l .dl) true false ≡ locvOutOf l
   out-own h k = rw (h, lt-leb 1 (l .fdi .left) k)
 
-  pub out-by : (d : Defect) (o : Out) → l .state .defect ≡ d → o ≡ outBy d l → o ≡ outOf l
-  out-by d o e h = h ∙ ap (λ (x : Defect). outBy x l) (sym e)
+  pub out-by : (d : Defect) (o : Out) → l .state .defect ≡ d → o ≡ outBy d (l .server) (l .fdi) (l .dl) → o ≡ outOf l
+  out-by d o e h = h ∙ ap (λ (x : Defect). outBy x (l .server) (l .fdi) (l .dl)) (sym e)
 
   -- ---- FDI and BDI
 

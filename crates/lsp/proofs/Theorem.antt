@@ -10,6 +10,7 @@ use lib.Dec.{eqb}
 use borrow.Author.Tests.{eq-eqb, ne-eqb}
 use Rattle.payload.specs.Test.{pick, both}
 use Rattle.payload.specs.Layout.{Fields, cv, ffd, fdi, bdi}
+use Rattle.payload.specs.Rates.{lifeOf}
 use Rattle.payload.specs.Reading.{Answer, refusal, shown, fieldsAt, readOf, accepts, ttsiAt}
 use Rattle.payload.proofs.Opened.{passed, shown-by}
 use Rattle.rules.specs.Rules.{Record, HandsOut}
@@ -20,12 +21,13 @@ use Rattle.rules.proofs.Theorem.{state-right, state-right-ffd, answer-right}
 use Rattle.window.specs.View.{view, defectIn, defectOut, recordOut}
 use Rattle.window.specs.declared.state.Record.the-variants.{Nothing}
 use Rattle.window.proofs.Views.{in-out, record-out-one}
-use Rattle.lsp.specs.Steps.{same, isCv, counts, countedOf, toldOf, takenOf, receiveOf, closeOf}
-use Rattle.lsp.specs.History.{Added, History, counted, slots, closes, limit}
+use Rattle.lsp.specs.Steps.{same, isCv, counts, countedOf, toldOf, takenOf, receiveOf, outBy, closeOf}
+use Rattle.lsp.specs.History.{Added, History, counted, slots, serverIn, lastFdi, fdiAfter, closes, limit}
 use Rattle.lsp.specs.Theorem.{Step, receive, close, server, after, historyOf, added, exact, Path, Closing, AtLimit, strange, answerTo, Theorem}
+use Rattle.lsp.specs.declared.path.Fdi.{Fdi}
 use Rattle.lsp.specs.declared.path.Lsp.{Lsp}
 use Rattle.lsp.specs.declared.close.Closed.{Closed}
-use Rattle.lsp.proofs.Follows.{cvIn, Follows, at-first, receives, signals, slots-are, closedWell, close-well, close-full, next-state, closes-one}
+use Rattle.lsp.proofs.Follows.{cvIn, Follows, at-first, receives, signals, slots-are, closedWell, close-well, close-full, next-state, one-more, closes-one}
 
 pub follows : (a : Added) (s : List Step) → Follows a (after (added a) s) (historyOf a s)
 follows a [] = at-first a
@@ -92,6 +94,14 @@ module _ (a : Added) (l : Lsp) (h : History) (f : Follows a l h) where
         ap (λ (c : Closed). c .handed) well
         ∙ ap (λ (b : Bool). recordOut (machine.handedOut b (view (l .state)))) (ap (λ (k : ℕ). eqb k 0) (f .kind) ∙ is-ffd n)
 
+    right-out : closeOf l .out ≡ outBy (closeOf l .defect) (serverIn h) (fdiAfter (lifeOf (a .kind)) (suc (slots h)) (lastFdi h)) (a .dl)
+    right-out =
+        let g : Follows a (closedWell l .next) (closes ∷ h) = one-more a l h f in
+        ap (λ (c : Closed). c .out) well
+        ∙ ap (λ (b : Bool). outBy (closedWell l .defect) b (closedWell l .next .fdi) (l .dl)) (g .server)
+        ∙ ap₂ (λ (x : Fdi) (k : ℕ). outBy (closedWell l .defect) (serverIn h) x k) (g .fdi) (g .dl)
+        ∙ ap (λ (c : Closed). outBy (c .defect) (serverIn h) (fdiAfter (lifeOf (a .kind)) (suc (slots h)) (lastFdi h)) (a .dl)) (sym well)
+
     pub right-closing : Closing a l h
     right-closing =
         record {
@@ -99,7 +109,7 @@ module _ (a : Added) (l : Lsp) (h : History) (f : Follows a l h) where
           defect = subst (RightDefect (exact h) (suc (slots h))) (sym answered) next-defect;
           cv = right-record;
           ffd = no-record;
-          out = rw well;
+          out = right-out;
         }
 
   pub at-limit : limit ≤ slots h → AtLimit l

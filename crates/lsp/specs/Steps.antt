@@ -10,7 +10,7 @@ use Rattle.payload.specs.Rates.{lifeOf}
 use Rattle.payload.specs.Writing.{writeOf}
 use Rattle.payload.specs.Reading.{Answer, refusal, readOf, accepts, ttsiAt}
 use Rattle.rules.specs.Machine.{fresh, receive}
-use Rattle.window.specs.View.{view, stateOut, packetOf, standing, turnedOf}
+use Rattle.window.specs.View.{view, stateOut, packetOf, standing, codeOf, turnedOf}
 use Rattle.window.specs.declared.state.Defect.{Defect}
 use Rattle.window.specs.declared.state.Defect.the-variants.{Clear, Mismatch, Mismerge, Locv, Excess}
 use Rattle.window.specs.declared.state.Record.the-variants.{Nothing}
@@ -75,21 +75,23 @@ serverOf l v = pick (leb v 1) (record { number = 0; next = withServer l (eqb v 1
 abbrev pub outIs : ℕ → ℕ → Bool → Bool → Out
 outIs dt dl alarm suppression = record { dt = dt; dl = dl; alarm = alarm; suppression = suppression }
 
--- LOCV: the server's, else that of the FDI that stands, else its own, which alone is an alarm
-abbrev pub locvOutOf : Lsp → Out
-locvOutOf l =
-    pick (l .server) (outIs 0x0101 (l .dl) false false)
-    (pick (leb 1 (l .fdi .left)) (outIs (l .fdi .dt) (l .fdi .dl) false false) (outIs 0x0201 (l .dl) true false))
+-- by the server signal, the FDI and the local DL. LOCV: the server's, else that of the FDI that stands, else its own, which alone is an alarm
+abbrev pub locvOut : Bool → Fdi → ℕ → Out
+locvOut server f dl =
+    pick server (outIs 0x0101 dl false false) (pick (leb 1 (f .left)) (outIs (f .dt) (f .dl) false false) (outIs (codeOf Locv) dl true false))
 
-abbrev pub outBy : Defect → Lsp → Out
-outBy Clear l = outIs 0 0 false false
-outBy Locv l = locvOutOf l
-outBy Mismatch l = outIs 0x0202 (l .dl) true true
-outBy Mismerge l = outIs 0x0203 (l .dl) true true
-outBy Excess l = outIs 0x0204 (l .dl) true false
+abbrev pub outBy : Defect → Bool → Fdi → ℕ → Out
+outBy Clear server f dl = outIs 0 0 false false
+outBy Locv server f dl = locvOut server f dl
+outBy Mismatch server f dl = outIs (codeOf Mismatch) dl true true
+outBy Mismerge server f dl = outIs (codeOf Mismerge) dl true true
+outBy Excess server f dl = outIs (codeOf Excess) dl true false
+
+abbrev pub locvOutOf : Lsp → Out
+locvOutOf l = locvOut (l .server) (l .fdi) (l .dl)
 
 abbrev pub outOf : Lsp → Out
-outOf l = outBy (l .state .defect) l
+outOf l = outBy (l .state .defect) (l .server) (l .fdi) (l .dl)
 
 -- ---- the close
 

@@ -70,7 +70,7 @@ pub record Closing (a : Added) (l : Lsp) (h : History) : Type 0 where
   pub defect : RightDefect (exact h) (suc (slots h)) (defectIn (closeOf l .defect))
   pub cv : a .kind ≡ 0 → (r : Record) → (closeOf l .handed ≡ recordOut r) ↔ HandsOut 1 (exact h) (suc (slots h)) r
   pub ffd : (a .kind ≡ 0 → ⊥) → closeOf l .handed ≡ Nothing
-  pub out : closeOf l .out ≡ outBy (closeOf l .defect) (closeOf l .next)
+  pub out : closeOf l .out ≡ outBy (closeOf l .defect) (serverIn h) (fdiAfter (lifeOf (a .kind)) (suc (slots h)) (lastFdi h)) (a .dl)
 
 -- at the limit nothing changes
 pub record AtLimit (l : Lsp) : Type 0 where

@@ -1,11 +1,11 @@
 // The close of a slot on a path, and what goes out.
 ghost use mathlib.Core.Path.{_≡_};
 ghost use Rattle.lsp.specs.Steps.{fadedOf, locvOutOf, outOf, closeOf};
+use crate::path::Fdi;
+use crate::path::Lsp;
 use payload::DefectType;
 use window::Defect;
 use window::Record;
-use crate::path::Fdi;
-use crate::path::Lsp;
 
 // What goes out of a path: the defect type and location of its FDI and BDI, zero where no defect stands, and what its alarm and its traffic do.
 pub struct Out {

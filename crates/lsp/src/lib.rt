@@ -5,7 +5,6 @@
 mod close;
 mod path;
 mod receive;
-
 mod write;
 
 pub use close::Closed;

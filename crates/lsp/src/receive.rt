@@ -2,10 +2,10 @@
 ghost use mathlib.Core.Path.{_≡_};
 ghost use Rattle.payload.specs.Reading.{answerOf};
 ghost use Rattle.lsp.specs.Steps.{same, countedOf, toldOf, receiveOf};
-use payload::Found;
-use payload::Kind;
 use crate::path::Fdi;
 use crate::path::Lsp;
+use payload::Found;
+use payload::Kind;
 
 // What the reader answers of the payload, or 6, and the path afterwards.
 pub struct Received {

@@ -1,8 +1,8 @@
 // FDI and BDI, written from the path as it stands, with no TTSI.
 ghost use mathlib.Core.Path.{_≡_};
 ghost use Rattle.lsp.specs.Steps.{writeRowOf};
-use payload::FunctionType;
 use crate::path::Lsp;
+use payload::FunctionType;
 
 impl Lsp {
     fn write_row(self, ty: u8, buf: &mut [u8]) -> u8

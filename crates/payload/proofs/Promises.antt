@@ -29,7 +29,7 @@ back (Refused n) = refl
 pub same-answer : (x y : Found) → answerOf x ≡ answerOf y → x ≡ y
 same-answer x y e = sym (back x) ∙ ap foundIn e ∙ back y
 
-one : {X : Type 0} (z : X) → One X (λ r. r ≡ z)
+pub one : {X : Type 0} (z : X) → One X (λ r. r ≡ z)
 one z x y p q = p ∙ sym q
 
 pub one-outcome : OneOutcome

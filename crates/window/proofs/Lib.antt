@@ -2,3 +2,4 @@ pub mod Lists
 pub mod Views
 pub mod Turns
 pub mod Closes
+pub mod Promises

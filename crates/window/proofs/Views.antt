@@ -76,13 +76,13 @@ module _ (n e u : ℕ) (d : Defect) where
       unfolding verdict judge
       as-due h k = rw (le-leb 3 n third, lt-leb 1 u none, lt-leb 5 e h, le-leb 2 e k)
 
-      pub one : e < 5 → e < 2 → 1 ≤ e → d ≡ defectOut (defectAfter (verdict n e u) (defectIn d))
+      pub one : e < 5 → e < 2 → e ≡ 1 → d ≡ defectOut (defectAfter (verdict n e u) (defectIn d))
       unfolding verdict judge
-      one h k l = rw (le-leb 3 n third, lt-leb 1 u none, lt-leb 5 e h, lt-leb 2 e k, le-leb 1 e l) (out-in d)
+      one h k l = rw (le-leb 3 n third, lt-leb 1 u none, lt-leb 5 e h, lt-leb 2 e k, le-leb 1 e (omega arith)) (out-in d)
 
-      pub loss : e < 5 → e < 2 → e < 1 → Locv ≡ defectOut (defectAfter (verdict n e u) (defectIn d))
+      pub loss : e < 5 → e < 2 → (e ≡ 1 → ⊥) → Locv ≡ defectOut (defectAfter (verdict n e u) (defectIn d))
       unfolding verdict judge
-      loss h k l = rw (le-leb 3 n third, lt-leb 1 u none, lt-leb 5 e h, lt-leb 2 e k, lt-leb 1 e l)
+      loss h k l = rw (le-leb 3 n third, lt-leb 1 u none, lt-leb 5 e h, lt-leb 2 e k, lt-leb 1 e (omega arith))
 
 -- ---- how long it has stood, and whether the last ten slots are calm
 

@@ -56,6 +56,27 @@ recordIn Nothing = rules.nothing
 recordIn (U from until) = rules.U from until
 recordIn (B from until) = rules.B from until
 
+-- ---- the paper's number and values for each case
+
+-- the kind's code, 0 where no defect stands
+abbrev pub codeOf : Defect → ℕ
+codeOf Clear = 0
+codeOf Locv = 0x0201
+codeOf Mismatch = 0x0202
+codeOf Mismerge = 0x0203
+codeOf Excess = 0x0204
+
+-- unavailable 0 or 1, and the since-slot
+abbrev pub unavailableOf : Availability → ℕ × ℕ
+unavailableOf Available = (0, 0)
+unavailableOf (Unavailable since) = (1, since)
+
+-- record 0 none, 1 U, 2 B, and its from and until
+abbrev pub recordOf : Record → ℕ × (ℕ × ℕ)
+recordOf Nothing = (0, (0, 0))
+recordOf (U from until) = (1, (from, until))
+recordOf (B from until) = (2, (from, until))
+
 -- ---- the state, and what a close makes of it
 
 abbrev pub view : State → machine.State

@@ -39,7 +39,17 @@ fn shifted(row: [u8; 11]) -> [u8; 11]
     ensures { λ r. ⌜ r ≡ shift row ⌝ }
 {
     [
-        row[1], row[2], row[3], row[4], row[5], row[6], row[7], row[8], row[9], row[10], 0,
+        row[1],
+        row[2],
+        row[3],
+        row[4],
+        row[5],
+        row[6],
+        row[7],
+        row[8],
+        row[9],
+        row[10],
+        0,
     ]
 }
 
@@ -62,7 +72,7 @@ fn judged(n: u64, e: u16, u: u16, defect: Defect) -> Defect
     if 2 <= e {
         return Defect::Clear;
     }
-    if 1 <= e {
+    if e == 1 {
         return defect;
     }
     Defect::Locv

@@ -11,6 +11,7 @@ use Rattle.lsp.proofs.receive.same_octets.Statement.{statement}
 use Rattle.lsp.proofs.receive.same_octets.Tie as tie
 use Rattle.lsp.proofs.receive.same_octets.Reads as reads
 use Rattle.lsp.proofs.receive.same_octets.Lts as lts
+
 -- src/receive.rt:20:9
 -- src/receive.rt:23:5
 -- src/receive.rt:24:12
@@ -26,7 +27,7 @@ abbrev μ-loop : tie.MeasureT-loop
 μ-loop a b i₀ i = 20 - i
 
 returns : tie.Need-returns Inv-loop μ-loop
-returns c = 
+returns c =
     let a = c .before .args in
     let n : length (a .t2) ≡ 20 = search needs in
     sym (other-length (a .a .now) (a .t2) (λ h. c .if1 .taken (h ∙ n)))
@@ -41,7 +42,7 @@ array-read-if2 : tie.Need-array-read-if2 Inv-loop μ-loop
 array-read-if2 c = search needs
 
 returns-2 : tie.Need-returns-2 Inv-loop μ-loop
-returns-2 c = 
+returns-2 c =
     let loop = c .before .before .before in
     let a = loop .before .before .args in
     let n : length (a .t2) ≡ 20 = search needs in
@@ -54,14 +55,14 @@ loop-less : tie.Need-loop-less Inv-loop μ-loop
 loop-less c = search needs
 
 loop-again : tie.Need-loop-again Inv-loop μ-loop
-loop-again c = 
+loop-again c =
     let loop = c .before .before .before in
     let a = loop .before .before .args in
     let n : length (a .t2) ≡ 20 = search needs in
     (sym (same-turn (a .a .now) (a .t2) (loop .loop .i) (omega arith) (omega arith) (c .if2 .left)) ∙ loop .loop .inv .0, omega arith)
 
 returns-3 : tie.Need-returns-3 Inv-loop μ-loop
-returns-3 c = 
+returns-3 c =
     let loop = c .before in
     let a = loop .before .before .args in
     let n : length (a .t2) ≡ 20 = search needs in

@@ -23,7 +23,7 @@ receive-requires c κs = search needs
 
 -- src/receive.rt:55:13
 returns : tie.Need-returns
-returns c = 
+returns c =
     let a = c .before .before .before .before .before .before .args in
     another (a .self) (answerOf (a .found)) (a .t .now) _ (sym (c .before .before .same-octets .ensures) ∙ not-true _ (c .before .if1 .taken)) (c .receive .ensures)
 
@@ -33,7 +33,7 @@ rate-of-requires c κs = search needs
 
 -- src/receive.rt:58:13
 returns-2 : tie.Need-returns-2
-returns-2 c = 
+returns-2 c =
     let if1 = c .before .before .before in
     let a = if1 .before .before .before .before .before .args in
     other-rate (a .self) (answerOf (a .found)) (a .t .now) (sym (if1 .before .same-octets .ensures) ∙ not-false _ (if1 .if1 .left)) _ (c .before .before .rate-of .ensures) (c .if2 .taken)
@@ -44,7 +44,7 @@ receive-requires-2 c κs = search needs
 
 -- src/receive.rt:47:5
 returns-3 : tie.Need-returns-3
-returns-3 c = 
+returns-3 c =
     let if2 = c .before in
     let if1 = if2 .before .before .before in
     let a = if1 .before .before .before .before .before .args in

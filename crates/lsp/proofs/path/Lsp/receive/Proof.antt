@@ -60,35 +60,35 @@ enum-told-4 c = search needs
 
 -- src/receive.rt:79:5
 returns : tie.Need-returns
-returns c = 
+returns c =
     let read = c .before .before .before .before in
     let a = read .before .before .args in
     as-cv (a .self) (a .p .now) _ (read .read .ensures) _ _ (c .before .before .enum-told .given .1) (ap (λ (x : (ℕ × ℕ) × List ℕ). x .1) (c .before .ttsi .ensures)) (c .counted .ensures)
 
 -- src/receive.rt:79:5
 returns-2 : tie.Need-returns-2
-returns-2 c = 
+returns-2 c =
     let read = c .before .before .before .before in
     let a = read .before .before .args in
     as-ffd (a .self) (a .p .now) _ (read .read .ensures) _ _ _ (c .before .before .enum-told2 .given .1) (ap (λ (x : (ℕ × ℕ) × List ℕ). x .1) (c .before .ttsi2 .ensures)) (c .counted2 .ensures)
 
 -- src/receive.rt:79:5
 returns-3 : tie.Need-returns-3
-returns-3 c = 
+returns-3 c =
     let read = c .before .before .before .before in
     let a = read .before .before .args in
     as-fdi (a .self) (a .p .now) _ (read .read .ensures) _ _ _ (c .before .before .found .given .1) (c .told .ensures)
 
 -- src/receive.rt:79:5
 returns-4 : tie.Need-returns-4
-returns-4 c = 
+returns-4 c =
     let read = c .before .before in
     let a = read .before .before .args in
     as-bdi (a .self) (a .p .now) _ (read .read .ensures) _ _ (c .enum-told3 .given .1)
 
 -- src/receive.rt:79:5
 returns-5 : tie.Need-returns-5
-returns-5 c = 
+returns-5 c =
     let read = c .before .before in
     let a = read .before .before .args in
     as-refused (a .self) (a .p .now) _ (read .read .ensures) _ (c .enum-told4 .given .1)

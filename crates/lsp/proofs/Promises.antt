@@ -1,0 +1,27 @@
+-- Two outcomes that meet a promise are equal. Assumes nothing.
+use mathlib.Core.Path.{_≡_, ap, ap₂, sym, _∙_}
+use Rattle.payload.specs.Reading.{Answer, answerOf}
+use Rattle.payload.specs.declared.reading.Found.{Found}
+use Rattle.payload.proofs.Promises.{one, same-answer}
+use Rattle.lsp.specs.Promises.{OneOutcome}
+use Rattle.lsp.specs.declared.path.Lsp.{Lsp}
+use Rattle.lsp.specs.declared.receive.Received.{Received}
+
+same-received : (x y : Received) (z : Answer × Lsp) → (answerOf (x .found), x .next) ≡ z → (answerOf (y .found), y .next) ≡ z → x ≡ y
+same-received x y z p q =
+    let e : (answerOf (x .found), x .next) ≡ (answerOf (y .found), y .next) = p ∙ sym q in
+    ap₂ (λ (f : Found) (l : Lsp). record { found = f; next = l })
+    (same-answer (x .found) (y .found) (ap (λ (w : Answer × Lsp). w .0) e))
+    (ap (λ (w : Answer × Lsp). w .1) e)
+
+pub one-outcome : OneOutcome
+one-outcome =
+    record {
+      new = λ kind ttsi dl. one _;
+      server = λ l v. one _;
+      receive = λ l p x y. same-received x y _;
+      out = λ l. one _;
+      close = λ l. one _;
+      write-fdi = λ l b. one _;
+      write-bdi = λ l b. one _;
+    }

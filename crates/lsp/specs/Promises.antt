@@ -1,0 +1,23 @@
+-- What the calls' promises leave open: nothing. Two outcomes that meet a call's promise are equal. `proofs/Promises.antt` proves it.
+-- Assumes nothing.
+use mathlib.Core.Path.{_≡_}
+use mathlib.Core.List.{List}
+use Prim.Native.Nat.{ℕ}
+use Rattle.payload.specs.Promises.{One}
+use Rattle.payload.specs.Reading.{answerOf}
+use Rattle.lsp.specs.Steps.{newOf, serverOf, receiveOf, outOf, closeOf, writeRowOf}
+use Rattle.lsp.specs.declared.path.Lsp.{Lsp}
+use Rattle.lsp.specs.declared.path.Signalled.{Signalled}
+use Rattle.lsp.specs.declared.receive.Received.{Received}
+use Rattle.lsp.specs.declared.close.Out.{Out}
+use Rattle.lsp.specs.declared.close.Closed.{Closed}
+
+pub record OneOutcome : Type 0 where
+  pub new : (kind : ℕ) (ttsi : List ℕ) (dl : ℕ) → One Lsp (λ r. r ≡ newOf kind ttsi dl)
+  pub server : (l : Lsp) (v : ℕ) → One Signalled (λ r. r ≡ serverOf l v)
+  pub receive : (l : Lsp) (p : List ℕ) → One Received (λ r. (answerOf (r .found), r .next) ≡ receiveOf l p)
+  pub out : (l : Lsp) → One Out (λ r. r ≡ outOf l)
+  pub close : (l : Lsp) → One Closed (λ r. r ≡ closeOf l)
+  -- the number and the lent octets afterwards
+  pub write-fdi : (l : Lsp) (b : List ℕ) → One (ℕ × List ℕ) (λ r. r ≡ writeRowOf 0x02 l b)
+  pub write-bdi : (l : Lsp) (b : List ℕ) → One (ℕ × List ℕ) (λ r. r ≡ writeRowOf 0x03 l b)
