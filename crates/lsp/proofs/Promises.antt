@@ -7,19 +7,24 @@ use Rattle.lsp.specs.Promises.{OneOutcome}
 use Rattle.lsp.specs.declared.path.Lsp.{Lsp}
 use Rattle.lsp.specs.declared.receive.Received.{Received}
 
-same-received : (x y : Received) (z : Answer × Lsp) → (answerOf (x .found), x .next) ≡ z → (answerOf (y .found), y .next) ≡ z → x ≡ y
-same-received x y z p q =
-    let e : (answerOf (x .found), x .next) ≡ (answerOf (y .found), y .next) = p ∙ sym q in
+-- the answer in numbers, and the next state
+outcome : Received → Answer × Lsp
+outcome r = (answerOf (r .found), r .next)
+
+same-received : (x y : Received) → outcome x ≡ outcome y → x ≡ y
+unfolding outcome
+same-received x y e =
     ap₂ (λ (f : Found) (l : Lsp). record { found = f; next = l })
     (same-answer (x .found) (y .found) (ap (λ (w : Answer × Lsp). w .0) e))
     (ap (λ (w : Answer × Lsp). w .1) e)
 
 pub one-outcome : OneOutcome
+unfolding outcome
 one-outcome =
     record {
       new = λ kind ttsi dl. one _;
       server = λ l v. one _;
-      receive = λ l p x y. same-received x y _;
+      receive = λ l p x y a b. same-received x y (a ∙ sym b);
       out = λ l. one _;
       close = λ l. one _;
       write-fdi = λ l b. one _;

@@ -9,16 +9,6 @@ use Rattle.lsp.proofs.Same.{same-turn, same-stop, same-end, other-lengt
 use borrow.Author.Needs.{needs}
 use Rattle.lsp.proofs.receive.same_octets.Statement.{statement}
 use Rattle.lsp.proofs.receive.same_octets.Tie as tie
-use Rattle.lsp.proofs.receive.same_octets.Reads as reads
-use Rattle.lsp.proofs.receive.same_octets.Lts as lts
-
--- src/receive.rt:20:9
--- src/receive.rt:23:5
--- src/receive.rt:24:12
--- src/receive.rt:24:20
--- src/receive.rt:25:13
--- src/receive.rt:27:9
--- src/receive.rt:16:1
 
 abbrev Inv-loop : tie.InvT-loop
 Inv-loop a b i₀ i = (same (drop i a) (drop i b) ≡ same a b) × (i ≤ 20)

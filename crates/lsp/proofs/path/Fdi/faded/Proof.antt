@@ -4,18 +4,13 @@ use Rattle.lsp.proofs.Parts.{fades-out, fades}
 use borrow.Author.Needs.{needs}
 use Rattle.lsp.proofs.path.Fdi.faded.Statement.{statement}
 use Rattle.lsp.proofs.path.Fdi.faded.Tie as tie
-use Rattle.lsp.proofs.path.Fdi.faded.Reads as reads
-use Rattle.lsp.proofs.path.Fdi.faded.Lts as lts
 
--- src/close.rt:33:13
 returns : tie.Need-returns
 returns c = fades-out (c .before .args .self) (c .if1 .taken)
 
--- src/close.rt:40:21
 sub-next : tie.Need-sub-next
 sub-next c = search needs
 
--- src/close.rt:28:5
 returns-2 : tie.Need-returns-2
 returns-2 c = fades (c .before .args .self) (c .if1 .left)
 

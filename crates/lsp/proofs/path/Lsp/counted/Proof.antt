@@ -7,42 +7,30 @@ use Rattle.lsp.proofs.Receives.{another, other-rate, own-rate}
 use borrow.Author.Needs.{needs}
 use Rattle.lsp.proofs.path.Lsp.counted.Statement.{statement}
 use Rattle.lsp.proofs.path.Lsp.counted.Tie as tie
-use Rattle.lsp.proofs.path.Lsp.counted.Reads as reads
-use Rattle.lsp.proofs.path.Lsp.counted.Lts as lts
-use Rattle.lsp.proofs.receive.rate_of.Reads as rate-of-reads
-use Rattle.lsp.proofs.receive.same_octets.Reads as same-octets-reads
-use Rattle.window.proofs.state.State.receive.Reads as receive-reads
 
--- src/receive.rt:53:13
 same-octets-requires : tie.Need-same-octets-requires
 same-octets-requires c κs = search needs
 
--- src/receive.rt:54:13
 receive-requires : tie.Need-receive-requires
 receive-requires c κs = search needs
 
--- src/receive.rt:55:13
 returns : tie.Need-returns
 returns c =
     let a = c .before .before .before .before .before .before .args in
     another (a .self) (answerOf (a .found)) (a .t .now) _ (sym (c .before .before .same-octets .ensures) ∙ not-true _ (c .before .if1 .taken)) (c .receive .ensures)
 
--- src/receive.rt:57:12
 rate-of-requires : tie.Need-rate-of-requires
 rate-of-requires c κs = search needs
 
--- src/receive.rt:58:13
 returns-2 : tie.Need-returns-2
 returns-2 c =
     let if1 = c .before .before .before in
     let a = if1 .before .before .before .before .before .args in
     other-rate (a .self) (answerOf (a .found)) (a .t .now) (sym (if1 .before .same-octets .ensures) ∙ not-false _ (if1 .if1 .left)) _ (c .before .before .rate-of .ensures) (c .if2 .taken)
 
--- src/receive.rt:63:9
 receive-requires-2 : tie.Need-receive-requires-2
 receive-requires-2 c κs = search needs
 
--- src/receive.rt:47:5
 returns-3 : tie.Need-returns-3
 returns-3 c =
     let if2 = c .before in

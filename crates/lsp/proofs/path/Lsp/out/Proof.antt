@@ -6,51 +6,37 @@ use Rattle.lsp.proofs.Parts.{out-by}
 use borrow.Author.Needs.{needs}
 use Rattle.lsp.proofs.path.Lsp.out.Statement.{statement}
 use Rattle.lsp.proofs.path.Lsp.out.Tie as tie
-use Rattle.lsp.proofs.path.Lsp.out.Reads as reads
-use Rattle.lsp.proofs.path.Lsp.out.Lts as lts
-use Rattle.lsp.proofs.path.Lsp.locv_out.Reads as locv-out-reads
 
--- src/close.rt:82:30
 enum-told : tie.Need-enum-told
 enum-told c = search needs
 
--- src/close.rt:88:29
 enum-told-2 : tie.Need-enum-told-2
 enum-told-2 c = search needs
 
--- src/close.rt:88:29
 locv-out-requires : tie.Need-locv-out-requires
 locv-out-requires c κs = search needs
 
--- src/close.rt:89:33
 enum-told-3 : tie.Need-enum-told-3
 enum-told-3 c = search needs
 
--- src/close.rt:95:33
 enum-told-4 : tie.Need-enum-told-4
 enum-told-4 c = search needs
 
--- src/close.rt:101:31
 enum-told-5 : tie.Need-enum-told-5
 enum-told-5 c = search needs
 
--- src/close.rt:76:5
 returns : tie.Need-returns
 returns c = out-by (c .before .before .before .args .self) Clear _ (c .enum-told .given .1) refl
 
--- src/close.rt:76:5
 returns-2 : tie.Need-returns-2
 returns-2 c = out-by (c .before .before .before .before .args .self) Locv _ (c .before .enum-told2 .given .1) (c .locv-out .ensures)
 
--- src/close.rt:76:5
 returns-3 : tie.Need-returns-3
 returns-3 c = out-by (c .before .before .before .args .self) Mismatch _ (c .enum-told3 .given .1) refl
 
--- src/close.rt:76:5
 returns-4 : tie.Need-returns-4
 returns-4 c = out-by (c .before .before .before .args .self) Mismerge _ (c .enum-told4 .given .1) refl
 
--- src/close.rt:76:5
 returns-5 : tie.Need-returns-5
 returns-5 c = out-by (c .before .before .before .args .self) Excess _ (c .enum-told5 .given .1) refl
 

@@ -7,86 +7,64 @@ use Rattle.lsp.proofs.Receives.{as-cv, as-ffd, as-fdi, as-bdi, as-refus
 use borrow.Author.Needs.{needs}
 use Rattle.lsp.proofs.path.Lsp.receive.Statement.{statement}
 use Rattle.lsp.proofs.path.Lsp.receive.Tie as tie
-use Rattle.lsp.proofs.path.Lsp.receive.Reads as reads
-use Rattle.lsp.proofs.path.Lsp.receive.Lts as lts
-use Rattle.lsp.proofs.path.Lsp.counted.Reads as counted-reads
-use Rattle.lsp.proofs.path.Lsp.told.Reads as told-reads
-use Rattle.payload.proofs.read.Reads as read-reads
-use Rattle.payload.proofs.ttsi.Reads as ttsi-reads
 
--- src/receive.rt:82:13
 read-requires : tie.Need-read-requires
 read-requires c κs = search needs
 
--- src/receive.rt:84:46
 enum-told : tie.Need-enum-told
 enum-told c = search needs
 
--- src/receive.rt:84:46
 ttsi-requires : tie.Need-ttsi-requires
 ttsi-requires c κs = search needs
 
--- src/receive.rt:84:26
 counted-requires : tie.Need-counted-requires
 counted-requires c κs = search needs
 
--- src/receive.rt:85:59
 enum-told-2 : tie.Need-enum-told-2
 enum-told-2 c = search needs
 
--- src/receive.rt:85:59
 ttsi-requires-2 : tie.Need-ttsi-requires-2
 ttsi-requires-2 c κs = search needs
 
--- src/receive.rt:85:39
 counted-requires-2 : tie.Need-counted-requires-2
 counted-requires-2 c κs = search needs
 
--- src/receive.rt:86:26
 enum-known-found : tie.Need-enum-known-found
 enum-known-found c = search needs
 
--- src/receive.rt:88:23
 told-requires : tie.Need-told-requires
 told-requires c κs = search needs
 
--- src/receive.rt:90:44
 enum-told-3 : tie.Need-enum-told-3
 enum-told-3 c = search needs
 
--- src/receive.rt:91:45
 enum-told-4 : tie.Need-enum-told-4
 enum-told-4 c = search needs
 
--- src/receive.rt:79:5
 returns : tie.Need-returns
 returns c =
     let read = c .before .before .before .before in
     let a = read .before .before .args in
     as-cv (a .self) (a .p .now) _ (read .read .ensures) _ _ (c .before .before .enum-told .given .1) (ap (λ (x : (ℕ × ℕ) × List ℕ). x .1) (c .before .ttsi .ensures)) (c .counted .ensures)
 
--- src/receive.rt:79:5
 returns-2 : tie.Need-returns-2
 returns-2 c =
     let read = c .before .before .before .before in
     let a = read .before .before .args in
     as-ffd (a .self) (a .p .now) _ (read .read .ensures) _ _ _ (c .before .before .enum-told2 .given .1) (ap (λ (x : (ℕ × ℕ) × List ℕ). x .1) (c .before .ttsi2 .ensures)) (c .counted2 .ensures)
 
--- src/receive.rt:79:5
 returns-3 : tie.Need-returns-3
 returns-3 c =
     let read = c .before .before .before .before in
     let a = read .before .before .args in
     as-fdi (a .self) (a .p .now) _ (read .read .ensures) _ _ _ (c .before .before .found .given .1) (c .told .ensures)
 
--- src/receive.rt:79:5
 returns-4 : tie.Need-returns-4
 returns-4 c =
     let read = c .before .before in
     let a = read .before .before .args in
     as-bdi (a .self) (a .p .now) _ (read .read .ensures) _ _ (c .enum-told3 .given .1)
 
--- src/receive.rt:79:5
 returns-5 : tie.Need-returns-5
 returns-5 c =
     let read = c .before .before in

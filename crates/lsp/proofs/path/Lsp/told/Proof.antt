@@ -6,19 +6,13 @@ use Rattle.lsp.proofs.Parts.{told-is}
 use borrow.Author.Needs.{needs}
 use Rattle.lsp.proofs.path.Lsp.told.Statement.{statement}
 use Rattle.lsp.proofs.path.Lsp.told.Tie as tie
-use Rattle.lsp.proofs.path.Lsp.told.Reads as reads
-use Rattle.lsp.proofs.path.Lsp.told.Lts as lts
-use Rattle.payload.proofs.rates.Kind.life.Reads as life-reads
 
--- src/receive.rt:59:20
 life-requires : tie.Need-life-requires
 life-requires c κs = search needs
 
--- src/receive.rt:59:20
 add-left : tie.Need-add-left
 add-left c = omega (arith, c .life .ensures, life-most (c .before .args .self .kind))
 
--- src/receive.rt:55:5
 returns : tie.Need-returns
 returns c = told-is (c .before .args .self) (c .before .args .dt) (c .before .args .dl) _ (c .life .ensures)
 
