@@ -21,9 +21,9 @@ use Rattle.window.specs.declared.state.State.{State}
 use Rattle.window.specs.declared.state.Defect.the-variants.{Clear}
 use Rattle.window.specs.declared.state.Record.the-variants.{Nothing}
 use Rattle.window.proofs.Views.{view-out}
-use Rattle.lsp.specs.Steps.{same, gone, isCv, counts, toldOf, takenOf, receiveOf, fadedOf, outIs, outOf, afterClose, closeOf, withServer, serverOf}
-use Rattle.lsp.specs.History.{Added, History, arrives, told, reported, signalled, closes, counted, slots, serverIn, Last, none, heard, lastFdi, fdiAfter}
-use Rattle.lsp.specs.History.{heardAs, received, limit, closed, signalledAs}
+use Rattle.lsp.specs.Steps.{same, gone, isCv, counts, countedBy, countedOf, toldOf, takenBy, receiveBy, receiveOf, fadedOf, outIs, outOf, afterClose, closeOf, withServer, serverOf}
+use Rattle.lsp.specs.History.{Added, History, arrives, told, reported, signalled, closes, counted, slots, serverIn, Last, none, heard, lastFdi, end, fdiAfter}
+use Rattle.lsp.specs.History.{countedAs, heardBy, receivedBy, received, limit, closed, signalledAs}
 use Rattle.lsp.specs.Theorem.{added}
 use Rattle.lsp.specs.declared.path.Fdi.{Fdi}
 use Rattle.lsp.specs.declared.path.Lsp.{Lsp}
@@ -47,28 +47,28 @@ at-first a = record { kind = refl; ttsi = refl; dl = refl; state = view-out mach
 
 -- ---- an FDI's life
 
-pub heard-now : (life n dt dl : ℕ) → record { left = life + 1; dt = dt; dl = dl } ≡ fdiAfter life n (heard (suc n) dt dl)
+heard-now : (life n dt dl : ℕ) → record { left = life + 1; dt = dt; dl = dl } ≡ fdiAfter life n (heard (suc n) dt dl)
 heard-now life n dt dl =
-    let q : life + 1 ≡ suc n + life - n = omega arith in
-    rw (lt-leb (suc n + life) n (omega arith), q)
+    let q : life + 1 ≡ end life (suc n) - n = omega arith in
+    rw (lt-leb (end life (suc n)) n (omega arith), q)
 
-pub fades : (life n : ℕ) (x : Last) → fadedOf (fdiAfter life n x) ≡ fdiAfter life (suc n) x
+fades : (life n : ℕ) (x : Last) → fadedOf (fdiAfter life n x) ≡ fdiAfter life (suc n) x
 fades life n none = refl
-fades life n (heard r dt dl) = go (leb (r + life) n) (leb (r + life) (suc n)) refl refl
+fades life n (heard r dt dl) = go (leb (end life r) n) (leb (end life r) (suc n)) refl refl
   where
-    go : (b b′ : Bool) → leb (r + life) n ≡ b → leb (r + life) (suc n) ≡ b′
-        → fadedOf (pick b gone (record { left = r + life - n; dt = dt; dl = dl })) ≡ pick b′ gone (record { left = r + life - suc n; dt = dt; dl = dl })
+    go : (b b′ : Bool) → leb (end life r) n ≡ b → leb (end life r) (suc n) ≡ b′
+        → fadedOf (pick b gone (record { left = end life r - n; dt = dt; dl = dl })) ≡ pick b′ gone (record { left = end life r - suc n; dt = dt; dl = dl })
     go true true e e′ = refl
-    go true false e e′ = absurd (omega (arith, leb-true (r + life) n e, leb-false (r + life) (suc n) e′))
-    go false true e e′ = rw (le-leb (r + life - n) 1 (omega (arith, leb-true (r + life) (suc n) e′)))
+    go true false e e′ = absurd (omega (arith, leb-true (end life r) n e, leb-false (end life r) (suc n) e′))
+    go false true e e′ = rw (le-leb (end life r - n) 1 (omega (arith, leb-true (end life r) (suc n) e′)))
     go false false e e′ =
-        let q : r + life - n - 1 ≡ r + life - suc n = omega arith in
-        rw (lt-leb (r + life - n) 1 (omega (arith, leb-false (r + life) (suc n) e′)), q)
+        let q : end life r - n - 1 ≡ end life r - suc n = omega arith in
+        rw (lt-leb (end life r - n) 1 (omega (arith, leb-false (end life r) (suc n) e′)), q)
 
 -- ---- a packet
 
 module _ (a : Added) (l : Lsp) (h : History) (f : Follows a l h) where
-  pub counts-one : (b : Bool) (p : machine.Packet) → (b ≡ true → p ≡ expected) → (b ≡ false → p ≡ unexpected) → Follows a (counts l b) (arrives p ∷ h)
+  counts-one : (b : Bool) (p : machine.Packet) → (b ≡ true → p ≡ expected) → (b ≡ false → p ≡ unexpected) → Follows a (counts l b) (arrives p ∷ h)
   unfolding stateOf
   counts-one true p e u =
       record {
@@ -103,32 +103,26 @@ module _ (a : Added) (l : Lsp) (h : History) (f : Follows a l h) where
   reported-one : Follows a l (reported ∷ h)
   reported-one = record { kind = f .kind; ttsi = f .ttsi; dl = f .dl; state = f .state; server = f .server; fdi = f .fdi }
 
-  -- by the tests of what was read: FDI, BDI, the expected TTSI, the path's own rate
-  by-tests : (r : Answer) (fdi bdi own rate : Bool)
-      → Follows a (pick {A = Answer × Lsp} fdi (r, toldOf l (r .dt) (r .dl)) (pick bdi (r, l) (pick own (pick rate (r, counts l true) (refusal 6, l)) (r, counts l false))) .1)
-      (pick fdi (told (r .dt) (r .dl) ∷ h) (pick bdi (reported ∷ h) (pick own (pick rate (arrives expected ∷ h) h) (arrives unexpected ∷ h))))
-  by-tests r true bdi own rate = told-one (r .dt) (r .dl)
-  by-tests r false true own rate = reported-one
-  by-tests r false false true true = counts-one true expected (λ e. refl) (λ e. absurd (never (sym e)))
-  by-tests r false false true false = f
-  by-tests r false false false rate = counts-one false unexpected (λ e. absurd (never e)) (λ e. refl)
+  -- by the tests of what was read: the expected TTSI and the path's own rate, then FDI and BDI
+  by-count : (r : Answer) (own rate : Bool) → Follows a (countedBy own rate l r .1) (countedAs own rate h)
+  by-count r true true = counts-one true expected (λ e. refl) (λ e. absurd (never (sym e)))
+  by-count r true false = f
+  by-count r false rate = counts-one false unexpected (λ e. absurd (never e)) (λ e. refl)
 
-  heardBy : Answer → List ℕ → List ℕ → ℕ → History
-  heardBy r t x k = heardAs (record { kind = k; ttsi = x; dl = a .dl }) r t h
+  by-type : (r : Answer) (t : List ℕ) (fdi bdi : Bool) → Follows a (takenBy fdi bdi l r t .1) (heardBy fdi bdi a r t h)
+  by-type r t true bdi = told-one (r .dt) (r .dl)
+  by-type r t false true = reported-one
+  by-type r t false false =
+      subst (Follows a (countedOf l r t .1)) (ap₂ (λ (x : List ℕ) (k : ℕ). countedAs (same t x) (eqb (r .rate) k) h) (f .ttsi) (f .kind))
+      (by-count r (same t (l .ttsi)) (eqb (r .rate) (l .kind)))
 
-  taken : (r : Answer) (t : List ℕ) → Follows a (takenOf l r t .1) (heardAs a r t h)
-  unfolding heardBy
-  taken r t =
-      subst (Follows a (takenOf l r t .1)) (ap₂ (heardBy r t) (f .ttsi) (f .kind))
-      (by-tests r (eqb (r .type) 0x02) (eqb (r .type) 0x03) (same t (l .ttsi)) (eqb (r .rate) (l .kind)))
+  by-answer : (r : Answer) (t : List ℕ) (accepted : Bool) → Follows a (receiveBy accepted l r t .1) (receivedBy accepted a r t h)
+  by-answer r t true = by-type r t (eqb (r .type) 0x02) (eqb (r .type) 0x03)
+  by-answer r t false = f
 
   pub receives : (p : List ℕ) → Follows a (receiveOf l p .1) (received a p h)
   unfolding receiveOf received
-  receives p = go (accepts p)
-    where
-      go : (b : Bool) → Follows a (pick {A = Answer × Lsp} b (takenOf l (readOf p) (ttsiAt p)) (readOf p, l) .1) (pick b (heardAs a (readOf p) (ttsiAt p) h) h)
-      go true = taken (readOf p) (ttsiAt p)
-      go false = f
+  receives p = by-answer (readOf p) (ttsiAt p) (accepts p)
 
   -- ---- the server signal
 

@@ -3,4 +3,10 @@ pub mod Same
 pub mod Receives
 pub mod Follows
 pub mod Theorem
+pub mod Rows
+pub mod Answers
+pub mod Soundness
+pub mod Ranges
+pub mod SoundParts
+pub mod SoundKept
 pub mod Promises

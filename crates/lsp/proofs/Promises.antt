@@ -29,4 +29,5 @@ one-outcome =
       close = λ l. one _;
       write-fdi = λ l b. one _;
       write-bdi = λ l b. one _;
+      is-sound = λ l. one _;
     }

@@ -21,7 +21,7 @@ use Rattle.rules.proofs.Theorem.{state-right, state-right-ffd, answer-right}
 use Rattle.window.specs.View.{view, defectIn, defectOut, recordOut}
 use Rattle.window.specs.declared.state.Record.the-variants.{Nothing}
 use Rattle.window.proofs.Views.{in-out, record-out-one}
-use Rattle.lsp.specs.Steps.{same, isCv, counts, countedOf, toldOf, takenOf, receiveOf, outBy, closeOf}
+use Rattle.lsp.specs.Steps.{same, countedBy, countedOf, takenOf, receiveBy, receiveOf, outBy, closeOf}
 use Rattle.lsp.specs.History.{Added, History, counted, slots, serverIn, lastFdi, fdiAfter, closes, limit}
 use Rattle.lsp.specs.Theorem.{Step, receive, close, server, after, historyOf, added, exact, Path, Closing, AtLimit, strange, answerTo, Theorem}
 use Rattle.lsp.specs.declared.path.Fdi.{Fdi}
@@ -119,15 +119,14 @@ module _ (a : Added) (l : Lsp) (h : History) (f : Follows a l h) where
 
   -- ---- receiving
 
-  by-tests : (r : Answer) (x y : Lsp) (own rate : Bool)
-      → pick {A = Answer × Lsp} own (pick rate (r, x) (refusal 6, l)) (r, y) .0 ≡ pick (both own (not rate)) (refusal 6) r
-  by-tests r x y true true = refl
-  by-tests r x y true false = refl
-  by-tests r x y false rate = refl
+  by-count : (r : Answer) (own rate : Bool) → countedBy own rate l r .0 ≡ pick (both own (not rate)) (refusal 6) r
+  by-count r true true = refl
+  by-count r true false = refl
+  by-count r false rate = refl
 
   counted-answer : (r : Answer) (t : List ℕ) → countedOf l r t .0 ≡ pick (both (same t (a .ttsi)) (not (eqb (r .rate) (a .kind)))) (refusal 6) r
   counted-answer r t =
-      by-tests r (counts l true) (counts l false) (same t (l .ttsi)) (eqb (r .rate) (l .kind))
+      by-count r (same t (l .ttsi)) (eqb (r .rate) (l .kind))
       ∙ ap₂ (λ (x : List ℕ) (k : ℕ). pick (both (same t x) (not (eqb (r .rate) k))) (refusal 6) r) (f .ttsi) (f .kind)
 
   by-fields : (g : Fields) (t : List ℕ) → takenOf l (shown g) t .0 ≡ pick (strange a (shown g) t) (refusal 6) (shown g)
@@ -140,8 +139,7 @@ module _ (a : Added) (l : Lsp) (h : History) (f : Follows a l h) where
   unfolding receiveOf
   right-answer p = go (accepts p) refl
     where
-      go : (b : Bool) → accepts p ≡ b
-          → pick {A = Answer × Lsp} b (takenOf l (readOf p) (ttsiAt p)) (readOf p, l) .0 ≡ pick (both b (strange a (readOf p) (ttsiAt p))) (refusal 6) (readOf p)
+      go : (b : Bool) → accepts p ≡ b → receiveBy b l (readOf p) (ttsiAt p) .0 ≡ pick (both b (strange a (readOf p) (ttsiAt p))) (refusal 6) (readOf p)
       go true e =
           subst (λ (r : Answer). takenOf l r (ttsiAt p) .0 ≡ pick (strange a r (ttsiAt p)) (refusal 6) r) (sym (shown-by p (passed p e)))
           (by-fields (fieldsAt p) (ttsiAt p))

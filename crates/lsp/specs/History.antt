@@ -58,10 +58,14 @@ lastFdi (reported ∷ h) = lastFdi h
 lastFdi (signalled b ∷ h) = lastFdi h
 lastFdi (closes ∷ h) = lastFdi h
 
--- received in slot r, it stands until slot r + life closes: after n closes, while n < r + life, and this many closes are left to it
+-- received in slot r, it stands until this slot closes
+abbrev pub end : ℕ → ℕ → ℕ
+end life r = r + life
+
+-- after n closes: it stands while n is below its end, and has this many closes left
 abbrev pub fdiAfter : ℕ → ℕ → Last → Fdi
 fdiAfter life n none = gone
-fdiAfter life n (heard r dt dl) = pick (leb (r + life) n) gone (record { left = r + life - n; dt = dt; dl = dl })
+fdiAfter life n (heard r dt dl) = pick (leb (end life r) n) gone (record { left = end life r - n; dt = dt; dl = dl })
 
 -- ---- what a step adds to it
 
@@ -71,17 +75,28 @@ pub record Added : Type 0 where
   pub ttsi : List ℕ
   pub dl : ℕ
 
--- CV or FFD: E with the expected TTSI and the path's own type and rate (a CV's rate is 0, as its kind is), U with another TTSI
-abbrev pub countedAs : Added → Answer → List ℕ → History → History
-countedAs a r t h = pick (same t (a .ttsi)) (pick (eqb (r .rate) (a .kind)) (arrives expected ∷ h) h) (arrives unexpected ∷ h)
+-- CV or FFD: E with the expected TTSI and the path's own type and rate (a CV's rate is 0, as its kind is), U with another TTSI; with the
+-- expected TTSI and another type or rate it is refused
+abbrev pub countedAs : (own rate : Bool) → History → History
+countedAs true true h = arrives expected ∷ h
+countedAs true false h = h
+countedAs false rate h = arrives unexpected ∷ h
+
+abbrev pub heardBy : (fdi bdi : Bool) → Added → Answer → List ℕ → History → History
+heardBy true bdi a r t h = told (r .dt) (r .dl) ∷ h
+heardBy false true a r t h = reported ∷ h
+heardBy false false a r t h = countedAs (same t (a .ttsi)) (eqb (r .rate) (a .kind)) h
 
 abbrev pub heardAs : Added → Answer → List ℕ → History → History
-heardAs a r t h =
-    pick (eqb (r .type) 0x02) (told (r .dt) (r .dl) ∷ h) (pick (eqb (r .type) 0x03) (reported ∷ h) (countedAs a r t h))
+heardAs a r t h = heardBy (eqb (r .type) 0x02) (eqb (r .type) 0x03) a r t h
 
--- refused packets leave no mark
+-- what the reader refuses leaves no mark
+abbrev pub receivedBy : (accepted : Bool) → Added → Answer → List ℕ → History → History
+receivedBy true a r t h = heardAs a r t h
+receivedBy false a r t h = h
+
 unfoldable pub received : Added → List ℕ → History → History
-received a p h = pick (accepts p) (heardAs a (readOf p) (ttsiAt p) h) h
+received a p h = receivedBy (accepts p) a (readOf p) (ttsiAt p) h
 
 abbrev pub limit : ℕ
 limit = 1000000000000

@@ -1,11 +1,13 @@
 -- What the calls' promises leave open: nothing. Two outcomes that meet a call's promise are equal. `proofs/Promises.antt` proves it.
 -- Assumes nothing.
 use mathlib.Core.Path.{_≡_}
+use mathlib.Core.Bool.{Bool}
 use mathlib.Core.List.{List}
 use Prim.Native.Nat.{ℕ}
 use Rattle.payload.specs.Promises.{One}
 use Rattle.payload.specs.Reading.{answerOf}
 use Rattle.lsp.specs.Steps.{newOf, serverOf, receiveOf, outOf, closeOf, writeRowOf}
+use Rattle.lsp.specs.Sound.{sound}
 use Rattle.lsp.specs.declared.path.Lsp.{Lsp}
 use Rattle.lsp.specs.declared.path.Signalled.{Signalled}
 use Rattle.lsp.specs.declared.receive.Received.{Received}
@@ -21,3 +23,4 @@ pub record OneOutcome : Type 0 where
   -- the number and the lent octets afterwards
   pub write-fdi : (l : Lsp) (b : List ℕ) → One (ℕ × List ℕ) (λ r. r ≡ writeRowOf 0x02 l b)
   pub write-bdi : (l : Lsp) (b : List ℕ) → One (ℕ × List ℕ) (λ r. r ≡ writeRowOf 0x03 l b)
+  pub is-sound : (l : Lsp) → One Bool (λ r. r ≡ sound l)

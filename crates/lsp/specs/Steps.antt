@@ -50,20 +50,36 @@ same (x ∷ xs) (y ∷ ys) = both (eqb x y) (same xs ys)
 abbrev pub counts : Lsp → Bool → Lsp
 counts l expected = withState l (stateOut (receive (packetOf expected) (view (l .state))))
 
--- a CV or FFD packet with TTSI t: a CV has rate 0, and a path's kind is 0 or its rate
+-- a CV or FFD packet: own says that it has the expected TTSI, rate that it is of the path's own type and rate
+abbrev pub countedBy : (own rate : Bool) → Lsp → Answer → Answer × Lsp
+countedBy true true l a = (a, counts l true)
+countedBy true false l a = (refusal 6, l)
+countedBy false rate l a = (a, counts l false)
+
+-- a CV has rate 0, and a path's kind is 0 or its rate
 abbrev pub countedOf : Lsp → Answer → List ℕ → Answer × Lsp
-countedOf l a t = pick (same t (l .ttsi)) (pick (eqb (a .rate) (l .kind)) (a, counts l true) (refusal 6, l)) (a, counts l false)
+countedOf l a t = countedBy (same t (l .ttsi)) (eqb (a .rate) (l .kind)) l a
 
 -- an FDI replaces the one before it
 abbrev pub toldOf : Lsp → ℕ → ℕ → Lsp
 toldOf l dt dl = withFdi l (record { left = lifeOf (l .kind) + 1; dt = dt; dl = dl })
 
--- by the type of what was read; a BDI changes nothing
+-- by whether it is an FDI or a BDI, which changes nothing
+abbrev pub takenBy : (fdi bdi : Bool) → Lsp → Answer → List ℕ → Answer × Lsp
+takenBy true bdi l a t = (a, toldOf l (a .dt) (a .dl))
+takenBy false true l a t = (a, l)
+takenBy false false l a t = countedOf l a t
+
 abbrev pub takenOf : Lsp → Answer → List ℕ → Answer × Lsp
-takenOf l a t = pick (eqb (a .type) 0x02) (a, toldOf l (a .dt) (a .dl)) (pick (eqb (a .type) 0x03) (a, l) (countedOf l a t))
+takenOf l a t = takenBy (eqb (a .type) 0x02) (eqb (a .type) 0x03) l a t
+
+-- what the reader refuses changes nothing
+abbrev pub receiveBy : (accepted : Bool) → Lsp → Answer → List ℕ → Answer × Lsp
+receiveBy true l a t = takenOf l a t
+receiveBy false l a t = (a, l)
 
 unfoldable pub receiveOf : Lsp → List ℕ → Answer × Lsp
-receiveOf l p = pick (accepts p) (takenOf l (readOf p) (ttsiAt p)) (readOf p, l)
+receiveOf l p = receiveBy (accepts p) l (readOf p) (ttsiAt p)
 
 -- ---- the server signal
 

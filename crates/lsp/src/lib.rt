@@ -1,10 +1,12 @@
 // One path: its state by value, and a step for each call. A step takes the state and hands the next one back beside its answer.
 //
 // `specs/Steps.antt` says what each step answers and leaves, `specs/Theorem.antt` what follows for any list of steps: the defect,
-// availability and every record are what the window rules give from the path's history.
+// availability and every record are what the window rules give from the path's history. `specs/Sound.antt` has the rules that the image
+// asks of a path, which every step keeps.
 mod close;
 mod path;
 mod receive;
+mod sound;
 mod write;
 
 pub use close::Closed;

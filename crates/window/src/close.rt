@@ -7,6 +7,7 @@ ghost use Rattle.rules.specs.Machine.{available, unavailable, shift, verdict, d
 ghost use Rattle.window.specs.View.{defectIn, defectOut, view, turnOut, turnFor, turnedOf};
 use crate::state::Availability;
 use crate::state::Defect;
+use crate::state::LIMIT;
 use crate::state::Record;
 use crate::state::State;
 use crate::state::one_more;
@@ -181,7 +182,7 @@ impl State {
         ensures { λ r. ⌜ r ≡ turnedOf cv self ⌝ }
     {
         let closed = self.closed;
-        if 1000000000000 <= closed {
+        if LIMIT <= closed {
             return Turned {
                 number: 9,
                 state: self,

@@ -9,6 +9,7 @@ pub mod sums;
 pub use close::Turned;
 pub use state::Availability;
 pub use state::Defect;
+pub use state::LIMIT;
 pub use state::Record;
 pub use state::State;
 pub use sums::Sums;

@@ -4,6 +4,9 @@ ghost use Prim.Native.Nat.{_+_, min};
 ghost use Rattle.window.specs.View.{standing, view, stateOut, packetOf};
 ghost use Rattle.rules.specs.Machine.{fresh, receive, countUp};
 
+// No more slots than these are closed.
+pub const LIMIT: u64 = 1000000000000;
+
 // The defect that stands, by its kind.
 pub enum Defect {
     Clear,
