@@ -3,11 +3,11 @@
 // `specs/Steps.antt` says what each step answers and leaves, `specs/Theorem.antt` what follows for any list of steps: the defect,
 // availability and every record are what the window rules give from the path's history. `specs/Sound.antt` has the rules that the image
 // asks of a path, which every step keeps.
-mod close;
-mod path;
-mod receive;
-mod sound;
-mod write;
+pub mod close;
+pub mod path;
+pub mod receive;
+pub mod sound;
+pub mod write;
 
 pub use close::Closed;
 pub use close::Out;
