@@ -1,0 +1,479 @@
+#!/usr/bin/env python3
+"""A second reckoning of one path, from the paper alone.
+
+A path here is its whole history: how many packets came in every slot, and every FDI with the slot it came in. What is
+asked of it is reckoned from that history by the paper's rules; payloads are read and written by payload_model. Over it
+run the cases of the program path_cases, and what comes out is compared with its expected output,
+crates/path_cases/stdout. A difference is printed, and the exit status is then 1.
+
+usage: path_model.py [--write]     --write: write the expected output instead
+"""
+import copy
+import difflib
+import itertools
+import pathlib
+import sys
+from typing import NamedTuple, Optional
+
+sys.dont_write_bytecode = True  # the next line would leave a folder here
+
+from payload_model import KIND_LIVES, LENGTH, T, Fields, bip16, read, write
+
+LIMIT = 1_000_000_000_000
+CODES = {"Mismatch": 0x0202, "Mismerge": 0x0203, "LOCV": 0x0201, "Excess": 0x0204}
+NAMES = {0x01: "CV", 0x02: "FDI", 0x03: "BDI", 0x07: "FFD"}
+EXIT = "exit"
+
+# ---- the rules, over the counts of the slots
+
+
+class Sums:
+    """Sums over the last slots; slots are numbered from 1, and those before hold nothing."""
+
+    def __init__(self, counts):
+        self.upto = [0, *itertools.accumulate(counts)]
+
+    def last(self, k, n):
+        """Over n-k+1 to n."""
+        return self.upto[n] - self.upto[max(0, n - k)]
+
+
+def verdict(n, e3, u3):
+    """What the close of n meets: an entry by its kind, the exit, or neither."""
+    if n < 3:
+        return None
+    if u3 > 0:
+        return "Mismerge" if e3 > 0 else "Mismatch"
+    if e3 == 0:
+        return "LOCV"
+    if e3 >= 5:
+        return "Excess"
+    return EXIT if e3 >= 2 else None
+
+
+def latest(marks):
+    """At each index the last mark up to it that isn't None."""
+    return itertools.accumulate(marks, lambda before, mark: before if mark is None else mark)
+
+
+class Close(NamedTuple):
+    """What stands after a close, and what it hands out."""
+
+    kind: Optional[str]
+    since: Optional[int]
+    record: Optional[tuple]
+
+
+def closes(expected, others, cv=True):
+    """Every close of a history, by the rules. Lists are indexed by the slot; index 0 is before the first."""
+    e, u = Sums(expected), Sums(others)
+    numbers = range(1, len(expected) + 1)
+    met = [None] + [verdict(n, e.last(3, n), u.last(3, n)) for n in numbers]
+    kinds = [None if mark == EXIT else mark for mark in latest(met)]
+    # the last close up to n with no defect; eleven closes stood where it is that far back
+    without = list(itertools.accumulate((n if kind is None else 0 for n, kind in enumerate(kinds)), max))
+    eleven = [n if n - without[n] >= 11 else 0 for n in range(len(kinds))]
+    clears = [0] + [
+        n if kinds[n] is None and 9 <= e.last(10, n) <= 11 and u.last(10, n) == 0 else 0 for n in numbers
+    ]
+    # some m with no clearing after it: the latest m will do, if any does
+    last_m = list(itertools.accumulate(eleven, max))
+    last_j = list(itertools.accumulate(clears, max))
+    out = [cv and m > j for m, j in zip(last_m, last_j)]
+    declared = list(
+        itertools.accumulate(
+            (n if now and not before else 0 for n, (before, now) in enumerate(zip([False, *out], out))), max
+        )
+    )
+    closes_out = list(itertools.accumulate(map(int, out)))
+    yield from map(Close, kinds[1:], *made(cv, kinds, without, out, declared, closes_out))
+
+
+def made(cv, kinds, without, out, declared, closes_out):
+    """Of each close, unavailable since which slot, and the record."""
+    sinces, records = [], []
+    for n in range(1, len(kinds)):
+        sinces.append(declared[n] - 12 if out[n] else None)
+        record = None
+        if out[n - 1] and not out[n]:
+            record = ("U", declared[n] - 12, n - 9)
+        elif cv and kinds[n - 1] is not None and kinds[n] is None:
+            entered = without[n - 1] + 1
+            if closes_out[n] == closes_out[entered - 1]:
+                record = ("B", entered - 2, n - 2)
+        records.append(record)
+    return sinces, records
+
+
+# ---- a path
+
+
+def payload(fields):
+    """The octets of fields that obey their rules."""
+    buffer = bytearray(LENGTH)
+    assert write(fields, buffer) == 0
+    return bytes(buffer)
+
+
+DL = 0x0000FDE8
+TUNNEL_8 = T[:-1] + b"\x08"
+CV = payload(Fields(0x01, T))
+OTHER = payload(Fields(0x01, TUNNEL_8))
+
+
+def fdi(dl):
+    """An FDI with DT 0102."""
+    return payload(Fields(0x02, TUNNEL_8, dt=0x0102, dl=dl))
+
+
+class Out(NamedTuple):
+    """What goes out."""
+
+    dt: int = 0
+    dl: int = 0
+    alarm: int = 0
+    suppression: int = 0
+
+
+class Path:
+    """A history: counts of each slot, the open one last; FDIs with the slot they came in; the server signal.
+
+    Slots may have closed before the history begins, all without a packet.
+    """
+
+    def __init__(self, kind=0, earlier=0):
+        self.kind, self.earlier = kind, earlier
+        self.expected, self.others = [0], [0]
+        self.fdis = []
+        self.on = 0
+
+    def __eq__(self, other):
+        return vars(self) == vars(other)
+
+    def closed(self):
+        """How many slots are."""
+        return self.earlier + len(self.expected) - 1
+
+    def receive(self, octets):
+        """The number."""
+        number, fields = read(octets)
+        if number != 0:
+            return number
+        if fields.type == 0x02:
+            self.fdis.append((self.closed() + 1, fields.dt, fields.dl))
+        if fields.type in (0x02, 0x03):
+            return 0
+        if fields.ttsi != T:
+            self.others[-1] += 1
+            return 0
+        if fields.rate != self.kind:
+            return 6
+        self.expected[-1] += 1
+        return 0
+
+    def server(self, value):
+        """The number."""
+        if value not in (0, 1):
+            return 12
+        self.on = value
+        return 0
+
+    def close(self):
+        """The number."""
+        if self.closed() >= LIMIT:
+            return 9
+        self.expected.append(0)
+        self.others.append(0)
+        return 0
+
+    def history(self):
+        """Every close so far."""
+        return list(closes(self.expected[:-1], self.others[:-1], cv=self.kind == 0))
+
+    def last(self):
+        """What the last close found."""
+        return (self.history() or [Close(None, None, None)])[-1]
+
+    def fdi(self):
+        """The FDI that stands: the latest, if the slot that ends its life is not closed."""
+        if self.fdis:
+            came, dt, dl = self.fdis[-1]
+            if self.closed() < came + KIND_LIVES[self.kind]:
+                return dt, dl
+        return None
+
+    def out(self):
+        """What goes out as the path stands."""
+        kind = self.last().kind
+        if kind is None:
+            return Out()
+        if kind == "LOCV":
+            if self.on:
+                return Out(0x0101, DL)
+            if self.fdi():
+                return Out(*self.fdi())
+            return Out(CODES[kind], DL, alarm=1)
+        return Out(CODES[kind], DL, 1, int(kind in ("Mismatch", "Mismerge")))
+
+    def write(self, function_type, buffer):
+        """The number; on 0 the buffer's first 44 octets are the payload."""
+        if self.last().kind is None:
+            return 13
+        out = self.out()
+        return write(Fields(function_type, bytes(20), dt=out.dt, dl=out.dl), buffer)
+
+
+def path_of(*slots, kind=0, earlier=0):
+    """A path that closed a slot for each list of payloads."""
+    path = Path(kind, earlier)
+    for payloads in slots:
+        for octets in payloads:
+            assert path.receive(octets) == 0
+        assert path.close() == 0
+    return path
+
+
+def after(path, *steps):
+    """A copy of the path, with payloads received and numbers given as the server's value."""
+    path = copy.deepcopy(path)
+    for step in steps:
+        assert (path.server(step) if isinstance(step, int) else path.receive(step)) == 0
+    return path
+
+
+# ---- the cases
+
+
+def state(close):
+    """What stands after a close."""
+    since = "available" if close.since is None else f"unavailable since {close.since}"
+    return f"{close.kind or 'none'}, {since}"
+
+
+def told(path):
+    """Every record of a history, and what stands at the end."""
+    records = (close.record for close in path.history())
+    return " ".join([*(f"{a} {f} {t}, then" for a, f, t in filter(None, records)), state(path.last())])
+
+
+def number_cases():
+    """P5 to P12, the flood, the program's path."""
+    short = {"P5 ": [0, 0], "P6 ": [0, 0, 0], "P7 ": [0, 0, 0, 1], "P8 ": [0, 0, 0, 1, 1], "P9 ": [1, 1, 2]}
+    for name, counts in {**short, "P10 ": [1, 2, 2], "": [0, 0, 256]}.items():
+        yield f"{name}E {' '.join(map(str, counts))}: {told(path_of(*([CV] * k for k in counts)))}"
+    for name, words, late in ("P11", "15 to 16", (15, 16)), ("P12", "16", (16,)):
+        path = path_of(*([CV] * (n in (1, 2, 3, *late)) for n in range(1, 17)))
+        yield f"{name} E 1 in slots 1 to 3 and {words}, else 0, after slot 16: {told(path)}"
+    path = path_of(*[[CV]] * 3, *[[]] * 17, *[[CV]] * 9)
+    yield f"the program's path, E 1 in slots 1 to 3, 0 in 4 to 20, 1 in 21 to 29: {told(path)}"
+    yield f"FFD path of rate 3, E 0 in slots 1 to 20: {told(path_of(*[[]] * 20, kind=3))}"
+
+
+def early(own, other, fdis, server):
+    """What came in slot 3, in words, and the path with that slot open; FDIs have DL 1, 2 and so on."""
+    payloads = [CV] * own + [OTHER] * other + [fdi(k + 1) for k in range(fdis)]
+    words = f"slot 3 with CV, CV of another TTSI, FDI, server signal {own} {other} {fdis} {server}"
+    return words, after(path_of([], []), *payloads, server)
+
+
+def outgoing_cases():
+    """What goes out at the close of slot 3."""
+    cases_of = [(0, 0), (0, 1), (1, 1), (5, 0), (3, 0)]
+    all_cases = [(*packets, *signals) for packets in cases_of for signals in ((0, 0), (1, 0), (1, 1))]
+    all_cases[3:3] = [(0, 0, 0, 1), (0, 0, 2, 0)]
+    for case in all_cases:
+        words, path = early(*case)
+        assert path.close() == 0
+        kind, out = path.last().kind or "none", path.out()
+        found = f"{out.dt:04x} {out.dl:08x} {out.alarm} {out.suppression}"
+        yield f"{words}: {kind}, DT, DL, alarm, suppression: {found}"
+    for value in range(3):
+        path = Path()
+        answer = path.server(value)
+        yield f"server value, answer, signal on: {value} {answer} {path.on}"
+
+
+def lived(path):
+    """How many of the next 400 closes answer with the FDI. LOCV stands at all of them, so out() need not be asked."""
+    path, count = after(path, fdi(1)), 0
+    assert path.last().kind == "LOCV"
+    for _ in range(400):
+        assert path.close() == 0
+        count += path.fdi() is not None
+    assert path.last().kind == "LOCV"
+    return count
+
+
+def life_cases():
+    """How long an FDI stands."""
+    for kind in KIND_LIVES:
+        closes_of_it = lived(path_of([], [], [], kind=kind))
+        yield f"LOCV and an FDI, kind, closes that still answer with it: {kind} {closes_of_it}"
+    again = lived(path_of([], [], [], [fdi(1)], []))
+    yield f"kind 0, LOCV, an FDI, two closes and a second FDI, closes after it that still answer with it: {again}"
+
+
+def received(kind, words, octets):
+    """What a busy path answers: four slots closed, an FDI standing, the server signal on."""
+    before = after(path_of([], [], [], [], kind=kind), fdi(1), 1)
+    path = after(before)
+    answer = path.receive(octets)
+    found = f"{answer} {path.expected[-1]} {path.others[-1]} {int(path == before)}"
+    return f"kind {kind} receives {words}, answer, E and U of the open slot, path unchanged: {found}"
+
+
+def sealed(before):
+    """Octets with the BIP16 that is right."""
+    return before + bip16(before)
+
+
+def turned(at, x):
+    """A CV with the bits of x turned at an offset."""
+    return CV[:at] + bytes([CV[at] ^ x]) + CV[at + 1 :]
+
+
+def receiving_cases():
+    """Payloads of every type, and refused ones."""
+    rows = {0: [(0x01, 0), (0x07, 1), (0x07, 3), (0x02, 0), (0x03, 0)]}
+    rows[3] = [(0x01, 0), (0x07, 3), (0x07, 4), (0x02, 0), (0x03, 0)]
+    for ttsi, words in (T, ""), (TUNNEL_8, " of another TTSI"):
+        for kind, function_type, rate in ((kind, *row) for kind in rows for row in rows[kind]):
+            fields = Fields(function_type, ttsi, rate, 0x0102, 2)
+            rates = f" rate {rate}" if rate else ""
+            yield received(kind, f"{NAMES[function_type]}{rates}{words}", payload(fields))
+    yield received(0, "CV, cut to 43 octets", CV[:43])
+    yield received(0, "CV, at offset 43 turned by 1", turned(43, 1))
+    for at, x in (0, 4), (41, 1):
+        words = f"CV, at offset {at} turned by {x}, BIP16 made right"
+        yield received(0, words, sealed(turned(at, x)[:42]))
+
+
+def read_back(octets):
+    """The fields of an FDI or a BDI, and how many octets of its TTSI are zero."""
+    number, fields = read(octets)
+    assert number == 0
+    return f"{NAMES[fields.type]} {fields.dt:04x} {fields.dl:08x} {fields.ttsi.count(0)}"
+
+
+def writing_cases():
+    """FDI and BDI, written after slot 3 into the first of 50 octets of aa."""
+    cases_of = [((3, 0, 0, 0), 50), ((3, 0, 0, 0), 43), ((0, 0, 0, 0), 43), ((0, 0, 0, 0), 44), ((0, 0, 0, 0), 50)]
+    cases_of += [((0, 0, 0, 1), 50), ((0, 0, 1, 0), 50), ((0, 1, 0, 0), 50), ((1, 1, 1, 0), 50), ((5, 0, 0, 0), 50)]
+    for function_type in 0x02, 0x03:
+        for case, size in cases_of:
+            words, path = early(*case)
+            assert path.close() == 0
+            lent = bytearray(b"\xaa" * size)
+            answer = path.write(function_type, lent)
+            octets = bytes(lent) + b"\xaa" * (50 - size)
+            found = f"{answer}, octets of aa left: {octets.count(0xAA)}"
+            if answer == 0:
+                back = f"{read_back(octets[:LENGTH])} {octets[LENGTH:].count(0xAA)}"
+                found += f", read back, zeros of its TTSI, octets of aa after it: {back}"
+            yield f"{words}, {NAMES[function_type]} into {size} octets, answer: {found}"
+
+
+def limit_cases():
+    """A path in LOCV at the last slots that there are."""
+    for closed in LIMIT - 2, LIMIT - 1, LIMIT:
+        before = path_of(*[[]] * 20, earlier=closed - 20)
+        path = after(before)
+        answer = path.close()
+        # a refusal has all other fields zero or empty
+        kind, dt = (path.last().kind, path.out().dt) if answer == 0 else ("none", 0)
+        found = f"{answer} {kind} {dt:04x} {int(path == before)} {path.closed()}"
+        words = "closed so far, a close's answer, kind, DT, path unchanged, closed afterwards"
+        yield f"{words}: {closed} {found}"
+
+
+# ---- the long random run
+
+
+def drawn(seed):
+    """Lehmer's numbers."""
+    while True:
+        seed = seed * 48271 % 2147483647
+        yield seed
+
+
+def one(test):
+    """1 where the test holds."""
+    return int(test)
+
+
+STYLES = {  # of a phase: the packets of a slot, expected and other, by its number drawn and the slots left
+    4: lambda x, left: (0, 0),
+    5: lambda x, left: (0, 0),
+    6: lambda x, left: (2, 0),
+    7: lambda x, left: (1 if x % 8 else x // 8 % 301, 0),
+    8: lambda x, left: (0, 1 + x % 3 if x % 16 else 256),
+    9: lambda x, left: (x % 3, one(x % 7 == 0)),
+    10: lambda x, left: (one(x % 8 != 0), 0),
+    11: lambda x, left: (one(left % 3 == 0), 0),
+    12: lambda x, left: (1, one(x % 5 == 0)),
+    13: lambda x, left: (one(x % 3 != 0), 0),
+    14: lambda x, left: ({0: 0, 1: 2}.get(x % 16, 1), 0),
+    15: lambda x, left: (256 if left == 1 else 0, 0),
+}
+
+
+def slots(numbers):
+    """The packets of one slot after another."""
+    while True:
+        style = STYLES.get(next(numbers) % 16, lambda x, left: (1, 0))
+        for left in range(1 + next(numbers) % 40, 0, -1):
+            yield style(next(numbers), left)
+
+
+def long_cases(runs=100, length=10000, seed=1711):
+    """Runs of many slots on CV paths, the packets going on from one to the next."""
+    packets = slots(drawn(seed))
+    found = []
+    for _ in range(runs):
+        expected, others = zip(*itertools.islice(packets, length))
+        found.extend(closes(expected, others))
+    records = [close.record for close in found if close.record]
+    total = 0
+    for letter, start, until in records:
+        total = (total * 31 + start * 7 + until + ord(letter)) % 1000000007
+    letters = [letter for letter, _, _ in records]
+    kinds = [close.kind for close in found]
+    yield f"long run, closes compared, closes that differ from the recount: {len(found)} 0"
+    counts = " ".join(str(kinds.count(kind)) for kind in CODES)
+    yield f"long run, closes with Mismatch, Mismerge, LOCV, Excess: {counts}"
+    yield f"long run, closes when unavailable: {sum(close.since is not None for close in found)}"
+    yield f"long run, U records, B records: {letters.count('U')} {letters.count('B')}"
+    yield f"long run, checksum over the records: {total}"
+
+
+def cases():
+    """Every line of path_cases."""
+    parts = number_cases, outgoing_cases, life_cases, receiving_cases, writing_cases, limit_cases, long_cases
+    for part in parts:
+        yield from part()
+
+
+# ---- the expected output
+
+
+def main(arguments):
+    """Writes the expected output, or compares it."""
+    if arguments not in ([], ["--write"]):
+        sys.exit(__doc__)
+    name = "crates/path_cases/stdout"
+    path = pathlib.Path(__file__).resolve().parent.parent / name
+    lines = [line + "\n" for line in cases()]
+    if arguments:
+        path.write_text("".join(lines))
+        print("path model: the expected output written")
+        return
+    found = path.read_text().splitlines(keepends=True) if path.exists() else []
+    diff = list(difflib.unified_diff(found, lines, name, "path model"))
+    sys.stdout.writelines(diff)
+    if diff:
+        sys.exit(1)
+    print("path model: the expected output agrees")
+
+
+if __name__ == "__main__":
+    main(sys.argv[1:])
