@@ -43,14 +43,21 @@ fn rate_of(found: Found) -> u8
 }
 
 impl Lsp {
+    // Whether the octets are the expected TTSI.
+    pub fn expects(self, t: &[u8]) -> bool
+        ensures { λ r. ⌜ r ≡ same (now (t .entry)) (self .ttsi) ⌝ }
+    {
+        let ttsi = self.ttsi;
+        same_octets(t, ttsi)
+    }
+
     // A CV or FFD packet: with another TTSI it is unexpected; with the expected one it is of the path's own type and rate, or 6.
     fn counted(self, found: Found, t: &[u8]) -> Received
         ensures { λ r. ⌜ (answerOf (r .found), r .next) ≡ countedOf self (answerOf found) (now (t .entry)) ⌝ }
     {
         let state = self.state;
         let mut next = self;
-        let ttsi = self.ttsi;
-        if !same_octets(t, ttsi) {
+        if !self.expects(t) {
             next.state = state.receive(false);
             return Received { found, next };
         }
