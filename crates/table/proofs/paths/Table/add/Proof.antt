@@ -33,7 +33,7 @@ returns-4 : tie.Need-returns-4
 returns-4 c = full (c .before .before .before .before .before .before .before .before .args .self) (c .before .before .before .before .before .before .before .before .args .kind) (c .before .before .before .before .before .before .before .before .args .ttsi .now) (c .before .before .before .before .before .before .before .before .args .dl) (sym (c .before .before .before .before .before .before .is-kind .ensures) ∙ not-false _ (c .before .before .before .before .before .if1 .left)) (sym (c .before .before .before .before .is-ttsi .ensures) ∙ not-false _ (c .before .before .before .if2 .left)) (sym (c .before .before .expects .ensures) ∙ c .before .if3 .left) (c .if4 .taken)
 
 copied-requires : tie.Need-copied-requires
-copied-requires c κs = ttsi-long _ (sym (c .before .before .before .before .is-ttsi .ensures) ∙ not-false _ (c .before .before .before .if2 .left))
+copied-requires c κs = ttsi-long (c .before .before .before .before .before .before .before .before .args .ttsi .now) (sym (c .before .before .before .before .is-ttsi .ensures) ∙ not-false _ (c .before .before .before .if2 .left))
 
 new-requires : tie.Need-new-requires
 new-requires c κs = search needs
