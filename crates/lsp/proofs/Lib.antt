@@ -9,4 +9,5 @@ pub mod Soundness
 pub mod Ranges
 pub mod SoundParts
 pub mod SoundKept
+pub mod Refused
 pub mod Promises
