@@ -1,4 +1,4 @@
--- A refused step leaves the path as it was. Assumes nothing.
+-- A refused step leaves the path as it was, and no step changes the expected TTSI. Assumes nothing.
 use mathlib.Core.Path.{_≡_, refl, ap, sym, _∙_}
 use mathlib.Core.Bool.{Bool, true, false}
 use mathlib.Core.List.{List}
@@ -46,3 +46,38 @@ module _ (l : Lsp) where
       go : (b : Bool) → leb limit (l .state .closed) ≡ b → closeOf l .next ≡ l
       go true e = ap (λ (c : Closed). c .next) (close-full l (leb-true limit (l .state .closed) e))
       go false e = absurd (n (ap (λ (c : Closed). c .number) (close-well l (leb-false limit (l .state .closed) e))))
+
+-- ---- no step changes what is expected
+
+module _ (l : Lsp) where
+  taken-ttsi : (r : Answer) (t : List ℕ) (b c : Bool) → takenBy b c l r t .1 .ttsi ≡ l .ttsi
+  taken-ttsi r t true c = refl
+  taken-ttsi r t false true = refl
+  taken-ttsi r t false false = go (same t (l .ttsi)) (eqb (r .rate) (l .kind))
+    where
+      go : (own rate : Bool) → countedBy own rate l r .1 .ttsi ≡ l .ttsi
+      go true true = refl
+      go true false = refl
+      go false rate = refl
+
+  pub receive-ttsi : (p : List ℕ) → receiveOf l p .1 .ttsi ≡ l .ttsi
+  unfolding receiveOf
+  receive-ttsi p = go (accepts p)
+    where
+      go : (b : Bool) → receiveBy b l (readOf p) (ttsiAt p) .1 .ttsi ≡ l .ttsi
+      go true = taken-ttsi (readOf p) (ttsiAt p) (eqb (readOf p .type) 0x02) (eqb (readOf p .type) 0x03)
+      go false = refl
+
+  pub server-ttsi : (v : ℕ) → serverOf l v .next .ttsi ≡ l .ttsi
+  server-ttsi v = go (leb v 1) refl
+    where
+      go : (b : Bool) → leb v 1 ≡ b → serverOf l v .next .ttsi ≡ l .ttsi
+      go true e = rw e
+      go false e = rw e
+
+  pub close-ttsi : closeOf l .next .ttsi ≡ l .ttsi
+  close-ttsi = go (leb limit (l .state .closed)) refl
+    where
+      go : (b : Bool) → leb limit (l .state .closed) ≡ b → closeOf l .next .ttsi ≡ l .ttsi
+      go true e = ap (λ (c : Closed). c .next .ttsi) (close-full l (leb-true limit (l .state .closed) e))
+      go false e = ap (λ (c : Closed). c .next .ttsi) (close-well l (leb-false limit (l .state .closed) e))
