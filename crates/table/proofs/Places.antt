@@ -1,13 +1,13 @@
 -- Which paths are there, and one turn of the loop that looks for a TTSI among them. Assumes nothing.
 use mathlib.Core.Path.{_≡_, refl, ap, sym, _∙_}
 use mathlib.Core.Bool.{Bool, true, false}
-use mathlib.Core.List.{List, [], _∷_, _++_, append-nil}
-use Prim.Native.Nat.{ℕ, zero, suc, _+_, _≤_, _<_}
+use mathlib.Core.List.{List}
+use Prim.Native.Nat.{ℕ, _+_, _≤_, _<_}
 use native.Mathlib.Numerals.{add-one}
 use native.Mathlib.Omega.{arith}
 use lib.Dec.{ltb}
-use lib.ListN.{length, getD, set, take, drop, drop-of-length-le}
-use lib.Seq.{drop-cons, getD-take, length-take-le, take-length}
+use lib.ListN.{length, getD, take, drop, drop-of-length-le}
+use lib.Seq.{drop-cons, getD-take, length-take-le}
 use borrow.Author.Tests.{lt-ltb, le-ltb, ltb-true, ltb-false}
 use Rattle.payload.specs.Test.{pick, either}
 use Rattle.lsp.specs.Steps.{same}
@@ -66,18 +66,3 @@ module _ (ls : List Lsp) (n : ℕ) (ttsi : List ℕ) (long : length ls ≡ 64) (
 
   pub none-left : (i : ℕ) → n ≤ i → expectedIn (drop i (take n ls)) ttsi ≡ false
   none-left i h = expected-end (take n ls) ttsi i (omega (arith, taken-long))
-
--- ---- a TTSI copied octet by octet
-
-pub copy-turn : (i : ℕ) (s d : List ℕ) → i < length s → i < length d → set (take i s ++ drop i d) i (getD s i 0) ≡ take (i + 1) s ++ drop (i + 1) d
-copy-turn i s d h k = rw add-one (go i s d h k)
-  where
-    go : (i : ℕ) (s d : List ℕ) → i < length s → i < length d → set (take i s ++ drop i d) i (getD s i 0) ≡ take (suc i) s ++ drop (suc i) d
-    go i [] d h k = absurd (omega arith)
-    go i (x ∷ s) [] h k = absurd (omega arith)
-    go zero (x ∷ s) (y ∷ d) h k = refl
-    go (suc i) (x ∷ s) (y ∷ d) h k = ap (λ (l : List ℕ). x ∷ l) (go i s d (omega arith) (omega arith))
-
-pub copy-end : (x s d : List ℕ) (i : ℕ) → x ≡ take i s ++ drop i d → i ≡ length s → length d ≡ length s → x ≡ s
-copy-end x s d i e h k =
-    e ∙ ap (λ (l : List ℕ). take i s ++ l) (drop-of-length-le d {i = i} (omega arith)) ∙ append-nil (take i s) ∙ ap (λ (n : ℕ). take n s) h ∙ take-length s

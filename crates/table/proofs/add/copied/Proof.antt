@@ -5,7 +5,7 @@ use mathlib.Core.List.{List, _++_}
 use Prim.Native.Nat.{ℕ, _-_, _≤_}
 use native.Mathlib.Omega.{arith}
 use lib.ListN.{length, getD, set, take, drop}
-use Rattle.table.proofs.Places.{copy-turn, copy-end}
+use Rattle.payload.proofs.Stores.{copy-turn, copy-end}
 use borrow.Author.Needs.{needs}
 use Rattle.table.proofs.add.copied.Statement.{statement}
 use Rattle.table.proofs.add.copied.Tie as tie
