@@ -27,7 +27,7 @@ use Rattle.lsp.specs.Steps.{newOf, receiveOf, serverOf, closeOf, outBy, 
 use Rattle.lsp.specs.History.{Added, History, counted, slots, serverIn, lastFdi, fdiAfter, received, closed, signalledAs, limit}
 use Rattle.lsp.specs.declared.path.Lsp.{Lsp}
 
--- ---- steps, the path after them, and its history
+-- ---- steps, the newest first, the path after them, and its history
 
 pub data Step : Type 0 where
   receive : List ℕ → Step  -- any octets
