@@ -29,5 +29,6 @@ one-outcome =
       close = λ l. one _;
       write-fdi = λ l b. one _;
       write-bdi = λ l b. one _;
+      expects = λ l t. one _;
       is-sound = λ l. one _;
     }

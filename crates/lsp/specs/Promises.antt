@@ -6,7 +6,7 @@ use mathlib.Core.List.{List}
 use Prim.Native.Nat.{ℕ}
 use Rattle.payload.specs.Promises.{One}
 use Rattle.payload.specs.Reading.{answerOf}
-use Rattle.lsp.specs.Steps.{newOf, serverOf, receiveOf, outOf, closeOf, writeRowOf}
+use Rattle.lsp.specs.Steps.{newOf, same, serverOf, receiveOf, outOf, closeOf, writeRowOf}
 use Rattle.lsp.specs.Sound.{sound}
 use Rattle.lsp.specs.declared.path.Lsp.{Lsp}
 use Rattle.lsp.specs.declared.path.Signalled.{Signalled}
@@ -23,4 +23,5 @@ pub record OneOutcome : Type 0 where
   -- the number and the lent octets afterwards
   pub write-fdi : (l : Lsp) (b : List ℕ) → One (ℕ × List ℕ) (λ r. r ≡ writeRowOf 0x02 l b)
   pub write-bdi : (l : Lsp) (b : List ℕ) → One (ℕ × List ℕ) (λ r. r ≡ writeRowOf 0x03 l b)
+  pub expects : (l : Lsp) (t : List ℕ) → One Bool (λ r. r ≡ same t (l .ttsi))
   pub is-sound : (l : Lsp) → One Bool (λ r. r ≡ sound l)
