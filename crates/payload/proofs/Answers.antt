@@ -10,7 +10,7 @@ use borrow.Author.Tests.{eq-eqb, ne-eqb, eqb-true}
 use Rattle.payload.specs.Test.{pick, both}
 use Rattle.payload.specs.Layout.{run, isType, valid}
 use Rattle.payload.specs.Writing.{fieldsOf, mayWrite}
-use Rattle.payload.specs.Reading.{Answer, refusal, shown, wordAt, longAt, fieldsAt, clear, bipRight, rowOf, readOf, accepts, ttsiPart}
+use Rattle.payload.specs.Reading.{Answer, refusal, shown, wordAt, longAt, fieldsAt, clear, bipRight, rowOf, readOf, accepts, ttsiPart, ttsiAt, placeAt, ttsiPlace}
 use Rattle.payload.proofs.Tests.{never, both-false, both-no, both-yes}
 
 module _ (p : List ℕ) (x y : ℕ) (e : x ≡ run 0 (take 42 p)) (o : y ≡ run 0 (drop 1 (take 42 p))) where
@@ -96,6 +96,18 @@ module _ (p : List ℕ) where
 
   pub refused-by : (a : Answer) (n : ℕ) → a ≡ readOf p → n ≡ a .number → (n ≡ 0 → ⊥) → accepts p ≡ false
   refused-by a n r e z = ne-eqb _ _ (λ h. z (e ∙ ap (λ (x : Answer). x .number) r ∙ h))
+
+  -- of a payload that was read, the TTSI's place holds its TTSI
+  pub place-holds : (a : Answer) → a ≡ readOf p → a .number ≡ 0 → placeAt p ≡ ttsiAt p
+  place-holds a r z =
+      let y : accepts p ≡ true = accepted-by a (a .number) r refl z in
+      rw (eq-eqb (length p) 44 (accepted-long y), y)
+
+  pub place-is : (a o : ℕ) → length p ≡ 44 → ((a, 4 + o), take 20 (drop 4 p)) ≡ ttsiPlace (a, o) p
+  place-is a o h = rw (eq-eqb (length p) 44 h)
+
+  pub no-place : (a o : ℕ) → (length p ≡ 44 → ⊥) → ((a, o), []) ≡ ttsiPlace (a, o) p
+  no-place a o h = rw (ne-eqb (length p) 44 h)
 
   -- the part that the TTSI call answers; a and o are the block and the offset of the payload
   pub part-is : (a o : ℕ) → accepts p ≡ true → ((a, 4 + o), take 20 (drop 4 p)) ≡ ttsiPart (a, o) p

@@ -38,6 +38,7 @@ one-outcome =
       read = λ p x y a b. same-answer x y (a ∙ sym b);
       number = λ f. one _;
       ttsi = λ at p. one _;
+      ttsi-place = λ at p. one _;
       write = λ ty t r dt dl b. one _;
       is-ttsi = λ t. one _;
       is-defect = λ dt. one _;

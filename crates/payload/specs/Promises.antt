@@ -8,7 +8,7 @@ use Prim.Native.Nat.{ℕ}
 use Rattle.payload.specs.Rates.{isRate, intervalOf, rateLifeOf, isKind, slotOf, lifeOf}
 use Rattle.payload.specs.Layout.{isDefect, isTtsi}
 use Rattle.payload.specs.Writing.{writeOf}
-use Rattle.payload.specs.Reading.{answerOf, readOf, ttsiPart}
+use Rattle.payload.specs.Reading.{answerOf, readOf, ttsiPart, ttsiPlace}
 use Rattle.payload.specs.declared.reading.Found.{Found}
 
 -- a promise over outcomes X has room for one at most
@@ -21,6 +21,7 @@ pub record OneOutcome : Type 0 where
   pub number : (f : Found) → One ℕ (λ r. r ≡ answerOf f .number)
   -- of a slice, where it begins and its octets; its ghost name is no outcome
   pub ttsi : (at : ℕ × ℕ) (p : List ℕ) → One ((ℕ × ℕ) × List ℕ) (λ r. r ≡ ttsiPart at p)
+  pub ttsi-place : (at : ℕ × ℕ) (p : List ℕ) → One ((ℕ × ℕ) × List ℕ) (λ r. r ≡ ttsiPlace at p)
   -- the number and the lent octets afterwards
   pub write : (ty : ℕ) (t : List ℕ) (r dt dl : ℕ) (b : List ℕ) → One (ℕ × List ℕ) (λ x. x ≡ writeOf ty t r dt dl b)
   pub is-ttsi : (t : List ℕ) → One Bool (λ r. r ≡ isTtsi t)

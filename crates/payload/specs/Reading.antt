@@ -87,3 +87,10 @@ ttsiAt p = pick (accepts p) (take 20 (drop 4 p)) []
 -- where the answered slice begins, as block and offset, beside its octets: four octets into the lent payload, so no copy
 abbrev pub ttsiPart : ℕ × ℕ → List ℕ → (ℕ × ℕ) × List ℕ
 ttsiPart at p = ((at .0, pick (accepts p) (4 + at .1) (at .1)), ttsiAt p)
+
+-- the place of the TTSI in 44 octets, read or not
+abbrev pub placeAt : List ℕ → List ℕ
+placeAt p = pick (eqb (length p) 44) (take 20 (drop 4 p)) []
+
+abbrev pub ttsiPlace : ℕ × ℕ → List ℕ → (ℕ × ℕ) × List ℕ
+ttsiPlace at p = ((at .0, pick (eqb (length p) 44) (4 + at .1) (at .1)), placeAt p)

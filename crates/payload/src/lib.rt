@@ -18,4 +18,5 @@ pub use rates::Rate;
 pub use reading::Found;
 pub use reading::read;
 pub use reading::ttsi;
+pub use reading::ttsi_place;
 pub use writing::write;

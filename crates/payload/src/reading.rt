@@ -6,7 +6,7 @@ ghost use lib.ListN.{length};
 ghost use denote.Ref.{ptr};
 ghost use Rattle.payload.specs.Test.{allZero};
 ghost use Rattle.payload.specs.Writing.{fieldsOf};
-ghost use Rattle.payload.specs.Reading.{answerOf, shown, bipRight, clearFrom, blankFrom, clear, rowOf, readOf, ttsiPart};
+ghost use Rattle.payload.specs.Reading.{answerOf, shown, bipRight, clearFrom, blankFrom, clear, rowOf, readOf, ttsiPart, ttsiPlace};
 use crate::bip16::every_second;
 use crate::layout::BIP;
 use crate::layout::FunctionType;
@@ -153,6 +153,17 @@ pub fn read(p: &[u8]) -> Found
         return Found::Refused { number: 3 };
     }
     row(p)
+}
+
+// Where the TTSI of 44 octets lies, for a caller who has read them; none of any other number of octets.
+pub fn ttsi_place(p: &[u8]) -> &[u8]
+    ensures { λ r. ⌜ (ptr r, now r) ≡ ttsiPlace (ptr (p .entry)) (now (p .entry)) ⌝ }
+{
+    if p.len() == LENGTH {
+        &p[TTSI..OWN]
+    } else {
+        &p[..0]
+    }
 }
 
 // The caller's own twenty octets, or none where the reader refuses.
