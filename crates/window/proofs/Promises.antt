@@ -20,6 +20,7 @@ one-outcome =
     record {
       sum-last = λ rows k. one _;
       stands = λ d. one _;
+      code = λ d. one _;
       fresh-state = one _;
       receive = λ s b. one _;
       close = λ cv s. one _;

@@ -21,6 +21,7 @@ One X d = (x y : X) → x ≡ d → y ≡ d → x ≡ y
 pub record OneOutcome : Type 0 where
   pub sum-last : (rows : List (List ℕ)) (k : ℕ) → One Sums (sumsOf rows k)
   pub stands : (d : Defect) → One Bool (standing d)
+  pub code : (d : Defect) → One ℕ (codeOf d)
   pub fresh-state : One State (stateOut fresh)
   pub receive : (s : State) (b : Bool) → One State (stateOut (receive (packetOf b) (view s)))
   pub close : (cv : Bool) (s : State) → One Turned (turnedOf cv s)

@@ -1,7 +1,7 @@
 // The state, a new path's, and one packet more.
 ghost use mathlib.Core.Path.{_≡_};
 ghost use Prim.Native.Nat.{_+_, min};
-ghost use Rattle.window.specs.View.{standing, view, stateOut, packetOf};
+ghost use Rattle.window.specs.View.{standing, codeOf, view, stateOut, packetOf};
 ghost use Rattle.rules.specs.Machine.{fresh, receive, countUp};
 
 // No more slots than these are closed.
@@ -49,6 +49,19 @@ impl Defect {
             Defect::Mismerge => true,
             Defect::Locv => true,
             Defect::Excess => true,
+        }
+    }
+
+    // The kind's code; 0 where no defect stands.
+    pub fn code(self) -> u16
+        ensures { λ r. ⌜ r ≡ codeOf self ⌝ }
+    {
+        match self {
+            Defect::Clear => 0,
+            Defect::Locv => 0x0201,
+            Defect::Mismatch => 0x0202,
+            Defect::Mismerge => 0x0203,
+            Defect::Excess => 0x0204,
         }
     }
 }
