@@ -9,5 +9,6 @@ pub mod Soundness
 pub mod Ranges
 pub mod SoundParts
 pub mod SoundKept
+pub mod InPlace
 pub mod Refused
 pub mod Promises

@@ -27,8 +27,14 @@ one-outcome =
       receive = λ l p x y a b. same-received x y (a ∙ sym b);
       out = λ l. one _;
       close = λ l. one _;
+      close-in-place = λ l. one _;
       write-fdi = λ l b. one _;
       write-bdi = λ l b. one _;
       expects = λ l t. one _;
       is-sound = λ l. one _;
+      row-holds = λ cut closed row. one _;
+      code-holds = λ d stood. one _;
+      stood-holds = λ closed stood. one _;
+      availability-holds = λ kind closed stood a. one _;
+      fdi-holds = λ kind f. one _;
     }

@@ -7,7 +7,8 @@ use native.Mathlib.Omega.{arith}
 use lib.Dec.{eqb}
 use borrow.Author.Tests.{eq-eqb, ne-eqb}
 use Rattle.payload.specs.Layout.{Fields, cv, ffd, fdi, bdi}
-use Rattle.payload.specs.Reading.{Answer, refusal, answerOf, shown, fieldsAt, readOf, accepts, ttsiAt}
+use Rattle.payload.specs.Reading.{Answer, refusal, answerOf, shown, fieldsAt, readOf, accepts, ttsiAt, placeAt}
+use Rattle.payload.proofs.Answers.{place-holds}
 use Rattle.payload.specs.declared.reading.Found.{Found}
 use Rattle.payload.specs.declared.reading.Found.the-variants.{Cv, Ffd, Fdi, Bdi, Refused}
 use Rattle.payload.proofs.Opened.{passed, shown-by}
@@ -55,14 +56,14 @@ module _ (l : Lsp) (p : List ℕ) where
   -- r is the reader's answer
   module _ (r : Found) (e : answerOf r ≡ readOf p) where
     counted-as : (t : List ℕ) (x : Answer × Lsp) → answerOf r .number ≡ 0 → eqb (answerOf r .type) 0x02 ≡ false → eqb (answerOf r .type) 0x03 ≡ false
-        → t ≡ ttsiAt p → x ≡ countedOf l (answerOf r) t → x ≡ receiveOf l p
-    counted-as t x z m n h k = accepted-as (answerOf r) x e z (k ∙ ap (countedOf l (answerOf r)) h ∙ rw (m, n))
+        → t ≡ placeAt p → x ≡ countedOf l (answerOf r) t → x ≡ receiveOf l p
+    counted-as t x z m n h k = accepted-as (answerOf r) x e z (k ∙ ap (countedOf l (answerOf r)) (h ∙ place-holds p (answerOf r) e z) ∙ rw (m, n))
 
-    pub as-cv : (t : List ℕ) (x : Answer × Lsp) → r ≡ Cv → t ≡ ttsiAt p → x ≡ countedOf l (answerOf r) t → x ≡ receiveOf l p
+    pub as-cv : (t : List ℕ) (x : Answer × Lsp) → r ≡ Cv → t ≡ placeAt p → x ≡ countedOf l (answerOf r) t → x ≡ receiveOf l p
     as-cv t x q =
         counted-as t x (ap (λ (f : Found). answerOf f .number) q) (ap (λ (f : Found). eqb (answerOf f .type) 0x02) q) (ap (λ (f : Found). eqb (answerOf f .type) 0x03) q)
 
-    pub as-ffd : (k : ℕ) (t : List ℕ) (x : Answer × Lsp) → r ≡ Ffd k → t ≡ ttsiAt p → x ≡ countedOf l (answerOf r) t → x ≡ receiveOf l p
+    pub as-ffd : (k : ℕ) (t : List ℕ) (x : Answer × Lsp) → r ≡ Ffd k → t ≡ placeAt p → x ≡ countedOf l (answerOf r) t → x ≡ receiveOf l p
     as-ffd k t x q =
         counted-as t x (ap (λ (f : Found). answerOf f .number) q) (ap (λ (f : Found). eqb (answerOf f .type) 0x02) q) (ap (λ (f : Found). eqb (answerOf f .type) 0x03) q)
 

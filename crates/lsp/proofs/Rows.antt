@@ -92,6 +92,9 @@ module _ (cut closed : ℕ) (row : List ℕ) where
   abbrev empty : Bool
   empty = allZero (take (neverWere closed) row)
 
+  pub not-eleven : (length row ≡ 11 → ⊥) → false ≡ isRow cut closed row
+  not-eleven h = rw (ne-eqb (length row) 11 h)
+
   pub too-many : length row ≡ 11 → within cut row ≡ false → false ≡ isRow cut closed row
   too-many n h = rw (eq-eqb (length row) 11 n, h)
 

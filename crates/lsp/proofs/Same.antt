@@ -2,7 +2,7 @@
 use mathlib.Core.Path.{_≡_, refl, ap, ap₂, sym, _∙_}
 use mathlib.Core.Bool.{Bool, true, false}
 use mathlib.Core.List.{List, [], _∷_}
-use Prim.Native.Nat.{ℕ, suc, _+_, _≤_, _<_}
+use Prim.Native.Nat.{ℕ, suc, _+_, _-_, _≤_, _<_}
 use native.Mathlib.Numerals.{add-one}
 use native.Mathlib.Omega.{arith}
 use lib.Dec.{eqb}
@@ -45,3 +45,23 @@ pub same-self : (a : List ℕ) → same a a ≡ true
 unfolding same
 same-self [] = refl
 same-self (x ∷ a) = rw (eq-eqb x x refl) (same-self a)
+
+-- ---- from the last octet on
+
+-- one octet that differs
+pub same-differs : (a b : List ℕ) (i : ℕ) → (getD a i 0 ≡ getD b i 0 → ⊥) → same a b ≡ false
+same-differs a b i n = go (same a b) refl
+  where
+    go : (t : Bool) → same a b ≡ t → same a b ≡ false
+    go true e = absurd (n (ap (λ (l : List ℕ). getD l i 0) (same-equal a b e)))
+    go false e = e
+
+-- one octet more of those that are the same
+pub same-before : (a b : List ℕ) (i : ℕ) → 0 < i → i ≤ length a → i ≤ length b → getD a (i - 1) 0 ≡ getD b (i - 1) 0
+    → same (drop i a) (drop i b) ≡ true → same (drop (i - 1) a) (drop (i - 1) b) ≡ true
+same-before a b i p h k e t =
+    let j : i - 1 + 1 ≡ i = omega arith in
+    same-turn a b (i - 1) (omega arith) (omega arith) e ∙ ap (λ (m : ℕ). same (drop m a) (drop m b)) j ∙ t
+
+pub same-whole : (a b : List ℕ) (i : ℕ) → i ≡ 0 → same (drop i a) (drop i b) ≡ true → true ≡ same a b
+same-whole a b i e t = sym t ∙ ap (λ (m : ℕ). same (drop m a) (drop m b)) e

@@ -13,18 +13,19 @@ pub struct Received {
     pub next: Lsp,
 }
 
+// From the last octet on: TTSIs of one network differ there.
 fn same_octets(a: &[u8], b: [u8; 20]) -> bool
     ensures { λ r. ⌜ r ≡ same (now (a .entry)) b ⌝ }
 {
     if a.len() != 20 {
         return false;
     }
-    let mut i = 0;
-    while i < 20 {
+    let mut i = 20;
+    while 0 < i {
+        i -= 1;
         if a[i] != b[i] {
             return false;
         }
-        i += 1;
     }
     true
 }
@@ -88,14 +89,13 @@ impl Lsp {
     {
         let found = payload::read(p);
         match found {
-            Found::Cv => self.counted(found, payload::ttsi(p)),
-            Found::Ffd { rate: _ } => self.counted(found, payload::ttsi(p)),
             Found::Fdi { dt, dl } => Received {
                 found,
                 next: self.told(dt, dl),
             },
             Found::Bdi { dt: _, dl: _ } => Received { found, next: self },
             Found::Refused { number: _ } => Received { found, next: self },
+            _ => self.counted(found, payload::ttsi_place(p)),
         }
     }
 }

@@ -1,7 +1,7 @@
 // Whether a path obeys the rules of the image, as its fields stand.
 ghost use mathlib.Core.Path.{_≡_};
 ghost use Prim.Native.Nat.{_-_};
-ghost use lib.ListN.{take};
+ghost use lib.ListN.{length, take};
 ghost use Rattle.payload.specs.Test.{allZero};
 ghost use Rattle.lsp.specs.Sound.{within, neverWere, isRow, isCode, isStood, isAvailability, isFdi, sound};
 use crate::path::Fdi;
@@ -30,8 +30,9 @@ fn less(a: u64, b: u64) -> u64
 }
 
 // No count is past the cut.
-fn counts_hold(cut: u8, row: [u8; 11]) -> bool
-    ensures { λ r. ⌜ r ≡ within cut row ⌝ }
+fn counts_hold(cut: u8, row: &[u8]) -> bool
+    requires { ⌜ length (now row) ≡ 11 ⌝ }
+    ensures { λ r. ⌜ r ≡ within cut (now (row .entry)) ⌝ }
 {
     let mut i = 0;
     while i < 11 {
@@ -44,8 +45,9 @@ fn counts_hold(cut: u8, row: [u8; 11]) -> bool
 }
 
 // A slot that never was has no count.
-fn never_were_empty(closed: u64, row: [u8; 11]) -> bool
-    ensures { λ r. ⌜ r ≡ allZero (take (neverWere closed) row) ⌝ }
+fn never_were_empty(closed: u64, row: &[u8]) -> bool
+    requires { ⌜ length (now row) ≡ 11 ⌝ }
+    ensures { λ r. ⌜ r ≡ allZero (take (neverWere closed) (now (row .entry))) ⌝ }
 {
     let n = less(10, closed) as usize;
     let mut i = 0;
@@ -58,9 +60,13 @@ fn never_were_empty(closed: u64, row: [u8; 11]) -> bool
     true
 }
 
-fn row_holds(cut: u8, closed: u64, row: [u8; 11]) -> bool
-    ensures { λ r. ⌜ r ≡ isRow cut closed row ⌝ }
+// Eleven counts, none past the cut and none in a slot that never was.
+pub fn row_holds(cut: u8, closed: u64, row: &[u8]) -> bool
+    ensures { λ r. ⌜ r ≡ isRow cut closed (now (row .entry)) ⌝ }
 {
+    if row.len() != 11 {
+        return false;
+    }
     if !counts_hold(cut, row) {
         return false;
     }
@@ -68,7 +74,7 @@ fn row_holds(cut: u8, closed: u64, row: [u8; 11]) -> bool
 }
 
 // A defect stands exactly when it has stood at some close.
-fn code_holds(defect: Defect, stood: u8) -> bool
+pub fn code_holds(defect: Defect, stood: u8) -> bool
     ensures { λ r. ⌜ r ≡ isCode defect stood ⌝ }
 {
     if defect.stands() {
@@ -78,7 +84,7 @@ fn code_holds(defect: Defect, stood: u8) -> bool
 }
 
 // Before slot 3 closes nothing stands.
-fn stood_holds(closed: u64, stood: u8) -> bool
+pub fn stood_holds(closed: u64, stood: u8) -> bool
     ensures { λ r. ⌜ r ≡ isStood closed stood ⌝ }
 {
     if 11 < stood {
@@ -88,7 +94,7 @@ fn stood_holds(closed: u64, stood: u8) -> bool
 }
 
 // A CV path whose defect has stood eleven closes is unavailable; no FFD path is.
-fn availability_holds(kind: u8, closed: u64, stood: u8, availability: Availability) -> bool
+pub fn availability_holds(kind: u8, closed: u64, stood: u8, availability: Availability) -> bool
     ensures { λ r. ⌜ r ≡ isAvailability kind closed stood availability ⌝ }
 {
     match availability {
@@ -112,7 +118,7 @@ fn availability_holds(kind: u8, closed: u64, stood: u8, availability: Availabili
 
 impl Fdi {
     // On a path of the kind: no more closes left than an FDI received now has; nothing of one that is gone, and a defect type of one that stands.
-    fn holds(self, kind: u8) -> bool
+    pub fn holds(self, kind: u8) -> bool
         ensures { λ r. ⌜ r ≡ isFdi kind self ⌝ }
     {
         if Kind::life(kind) + 1 < self.left {
@@ -146,11 +152,11 @@ impl Lsp {
             return false;
         }
         let e = state.e;
-        if !row_holds(12, closed, e) {
+        if !row_holds(12, closed, &e) {
             return false;
         }
         let u = state.u;
-        if !row_holds(1, closed, u) {
+        if !row_holds(1, closed, &u) {
             return false;
         }
         let defect = state.defect;

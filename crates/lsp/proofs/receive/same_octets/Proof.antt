@@ -1,29 +1,33 @@
--- `lsp::receive::same_octets` meets its contract: the test of the octets still ahead is the test of them all.
--- Assumes nothing.
-use mathlib.Core.Path.{_≡_, refl, sym, _∙_}
-use Prim.Native.Nat.{_-_, _≤_}
+-- `lsp::receive::same_octets` meets its contract: the octets behind are the same. Assumes nothing.
+use borrow.Author.Needs.{needs}
+use mathlib.Core.Bool.{true}
+use mathlib.Core.List.{List}
+use mathlib.Core.Path.{_≡_, refl, sym, ap, _∙_}
+use Prim.Native.Nat.{ℕ, _-_, _≤_}
 use native.Mathlib.Omega.{arith}
 use lib.ListN.{length, drop}
-use Rattle.lsp.specs.Steps.{same}
-use Rattle.lsp.proofs.Same.{same-turn, same-stop, same-end, other-length}
-use borrow.Author.Needs.{needs}
+use Rattle.lsp.proofs.Same.{same-differs, same-before, same-end, same-whole, other-length}
 use Rattle.lsp.proofs.receive.same_octets.Statement.{statement}
 use Rattle.lsp.proofs.receive.same_octets.Tie as tie
+use Rattle.lsp.specs.Steps.{same}
 
 abbrev Inv-loop : tie.InvT-loop
-Inv-loop a b i₀ i = (same (drop i a) (drop i b) ≡ same a b) × (i ≤ 20)
+Inv-loop a b i₀ i = (same (drop i a) (drop i b) ≡ true) × (i ≤ 20)
 
 abbrev μ-loop : tie.MeasureT-loop
-μ-loop a b i₀ i = 20 - i
+μ-loop a b i₀ i = i
+
+size : (c : tie.Start Inv-loop μ-loop) → length (c .args .t2) ≡ 20
+size c = search needs
 
 returns : tie.Need-returns Inv-loop μ-loop
-returns c =
-    let a = c .before .args in
-    let n : length (a .t2) ≡ 20 = search needs in
-    sym (other-length (a .a .now) (a .t2) (λ h. c .if1 .taken (h ∙ n)))
+returns c = sym (other-length (c .before .args .a .now) (c .before .args .t2) (λ h. c .if1 .taken (h ∙ size (c .before))))
 
 loop-holds : tie.Need-loop-holds Inv-loop μ-loop
-loop-holds c = (refl, omega arith)
+loop-holds c = (same-end (c .before .args .a .now) (c .before .args .t2) 20 (omega arith) (omega (arith, size (c .before))), omega arith)
+
+sub-i : tie.Need-sub-i Inv-loop μ-loop
+sub-i c = search needs
 
 shared-slice-read-if2 : tie.Need-shared-slice-read-if2 Inv-loop μ-loop
 shared-slice-read-if2 c = search needs
@@ -33,30 +37,22 @@ array-read-if2 c = search needs
 
 returns-2 : tie.Need-returns-2 Inv-loop μ-loop
 returns-2 c =
-    let loop = c .before .before .before in
-    let a = loop .before .before .args in
-    let n : length (a .t2) ≡ 20 = search needs in
-    sym (same-stop (a .a .now) (a .t2) (loop .loop .i) (omega arith) (omega arith) (c .if2 .taken)) ∙ loop .loop .inv .0
-
-add-i : tie.Need-add-i Inv-loop μ-loop
-add-i c = search needs
+    let a = c .before .before .before .before .before .args in
+    sym (same-differs (a .a .now) (a .t2) (c .before .before .before .loop .i - 1) (c .if2 .taken))
 
 loop-less : tie.Need-loop-less Inv-loop μ-loop
 loop-less c = search needs
 
 loop-again : tie.Need-loop-again Inv-loop μ-loop
 loop-again c =
-    let loop = c .before .before .before in
-    let a = loop .before .before .args in
-    let n : length (a .t2) ≡ 20 = search needs in
-    (sym (same-turn (a .a .now) (a .t2) (loop .loop .i) (omega arith) (omega arith) (c .if2 .left)) ∙ loop .loop .inv .0, omega arith)
+    let a = c .before .before .before .before .before .args in
+    let loop = c .before .before .before .loop in
+    (same-before (a .a .now) (a .t2) (loop .i) (omega arith) (omega arith) (omega (arith, size (c .before .before .before .before .before))) (c .if2 .left) (loop .inv .0), omega arith)
 
 returns-3 : tie.Need-returns-3 Inv-loop μ-loop
 returns-3 c =
-    let loop = c .before in
-    let a = loop .before .before .args in
-    let n : length (a .t2) ≡ 20 = search needs in
-    sym (same-end (a .a .now) (a .t2) (loop .loop .i) (omega arith) (omega arith)) ∙ loop .loop .inv .0
+    let a = c .before .before .before .args in
+    same-whole (a .a .now) (a .t2) (c .before .loop .i) (omega arith) (c .before .loop .inv .0)
 
 pub same-octets-spec : {M : Type 1} → statement M
 same-octets-spec =
@@ -66,10 +62,10 @@ same-octets-spec =
     μ-loop
     returns
     loop-holds
+    sub-i
     shared-slice-read-if2
     array-read-if2
     returns-2
-    add-i
     loop-less
     loop-again
     returns-3)

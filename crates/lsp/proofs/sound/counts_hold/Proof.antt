@@ -1,14 +1,13 @@
--- `lsp::sound::counts_hold` meets its contract: the test of the counts still ahead is the test of them all.
--- Assumes nothing.
+-- `lsp::sound::counts_hold` meets its contract: the test of the counts still ahead is the test of them all. Assumes nothing.
+use borrow.Author.Needs.{needs}
 use mathlib.Core.Path.{_≡_, refl, sym, _∙_}
 use Prim.Native.Nat.{_-_, _≤_}
 use native.Mathlib.Omega.{arith}
-use lib.ListN.{length, drop}
-use Rattle.lsp.specs.Sound.{within}
+use lib.ListN.{drop}
 use Rattle.lsp.proofs.Rows.{within-turn, within-stop, within-end}
-use borrow.Author.Needs.{needs}
 use Rattle.lsp.proofs.sound.counts_hold.Statement.{statement}
 use Rattle.lsp.proofs.sound.counts_hold.Tie as tie
+use Rattle.lsp.specs.Sound.{within}
 
 abbrev Inv-loop : tie.InvT-loop
 Inv-loop cut row i₀ i = (within cut (drop i row) ≡ within cut row) × (i ≤ 11)
@@ -19,15 +18,15 @@ abbrev μ-loop : tie.MeasureT-loop
 loop-holds : tie.Need-loop-holds Inv-loop μ-loop
 loop-holds c = (refl, omega arith)
 
-array-read-if1 : tie.Need-array-read-if1 Inv-loop μ-loop
-array-read-if1 c = search needs
+shared-slice-read-if1 : tie.Need-shared-slice-read-if1 Inv-loop μ-loop
+shared-slice-read-if1 c = search needs
 
 returns : tie.Need-returns Inv-loop μ-loop
 returns c =
-    let loop = c .before .before in
-    let a = loop .before .args in
-    let n : length (a .t2) ≡ 11 = search needs in
-    sym (within-stop (a .cut) (a .t2) (loop .loop .i) (omega arith) (c .if1 .taken)) ∙ loop .loop .inv .0
+    let start = c .before .before .before .before in
+    let loop = c .before .before .before .loop in
+    let n = start .pre in
+    sym (within-stop (start .args .cut) (start .args .row .now) (loop .i) (omega arith) (c .if1 .taken)) ∙ loop .inv .0
 
 add-i : tie.Need-add-i Inv-loop μ-loop
 add-i c = search needs
@@ -37,17 +36,17 @@ loop-less c = search needs
 
 loop-again : tie.Need-loop-again Inv-loop μ-loop
 loop-again c =
-    let loop = c .before .before in
-    let a = loop .before .args in
-    let n : length (a .t2) ≡ 11 = search needs in
-    (sym (within-turn (a .cut) (a .t2) (loop .loop .i) (omega arith) (c .if1 .left)) ∙ loop .loop .inv .0, omega arith)
+    let start = c .before .before .before .before in
+    let loop = c .before .before .before .loop in
+    let n = start .pre in
+    (sym (within-turn (start .args .cut) (start .args .row .now) (loop .i) (omega arith) (c .if1 .left)) ∙ loop .inv .0, omega arith)
 
 returns-2 : tie.Need-returns-2 Inv-loop μ-loop
 returns-2 c =
-    let loop = c .before in
-    let a = loop .before .args in
-    let n : length (a .t2) ≡ 11 = search needs in
-    sym (within-end (a .cut) (a .t2) (loop .loop .i) (omega arith)) ∙ loop .loop .inv .0
+    let start = c .before .before in
+    let loop = c .before .loop in
+    let n = start .pre in
+    sym (within-end (start .args .cut) (start .args .row .now) (loop .i) (omega arith)) ∙ loop .inv .0
 
 pub counts-hold-spec : {M : Type 1} → statement M
 counts-hold-spec =
@@ -56,7 +55,7 @@ counts-hold-spec =
     Inv-loop
     μ-loop
     loop-holds
-    array-read-if1
+    shared-slice-read-if1
     returns
     add-i
     loop-less

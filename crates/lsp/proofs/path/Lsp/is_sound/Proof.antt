@@ -29,40 +29,46 @@ returns-3 : tie.Need-returns-3
 unfolding sound
 returns-3 c = fails 2 (tests (c .before .before .before .before .before .before .before .before .args .self)) (lt-leb _ _ (c .if3 .taken))
 
+slice-aggregate-row-holds : tie.Need-slice-aggregate-row-holds
+slice-aggregate-row-holds c = search needs
+
 row-holds-requires : tie.Need-row-holds-requires
 row-holds-requires c κs = search needs
 
 returns-4 : tie.Need-returns-4
 unfolding sound
-returns-4 c = fails 3 (tests (c .before .before .before .before .before .before .before .before .before .before .before .args .self)) (sym (c .before .row-holds .ensures) ∙ not-true _ (c .if4 .taken))
+returns-4 c = fails 3 (tests (c .before .before .before .before .before .before .before .before .before .before .before .before .args .self)) (sym (c .before .row-holds .ensures) ∙ not-true _ (c .if4 .taken))
+
+slice-aggregate-row-holds-2 : tie.Need-slice-aggregate-row-holds-2
+slice-aggregate-row-holds-2 c = search needs
 
 row-holds-requires-2 : tie.Need-row-holds-requires-2
 row-holds-requires-2 c κs = search needs
 
 returns-5 : tie.Need-returns-5
 unfolding sound
-returns-5 c = fails 4 (tests (c .before .before .before .before .before .before .before .before .before .before .before .before .before .before .args .self)) (sym (c .before .row-holds2 .ensures) ∙ not-true _ (c .if5 .taken))
+returns-5 c = fails 4 (tests (c .before .before .before .before .before .before .before .before .before .before .before .before .before .before .before .before .args .self)) (sym (c .before .row-holds2 .ensures) ∙ not-true _ (c .if5 .taken))
 
 code-holds-requires : tie.Need-code-holds-requires
 code-holds-requires c κs = search needs
 
 returns-6 : tie.Need-returns-6
 unfolding sound
-returns-6 c = fails 5 (tests (c .before .before .before .before .before .before .before .before .before .before .before .before .before .before .before .before .args .self)) (sym (c .before .code-holds .ensures) ∙ not-true _ (c .if6 .taken))
+returns-6 c = fails 5 (tests (c .before .before .before .before .before .before .before .before .before .before .before .before .before .before .before .before .before .before .args .self)) (sym (c .before .code-holds .ensures) ∙ not-true _ (c .if6 .taken))
 
 stood-holds-requires : tie.Need-stood-holds-requires
 stood-holds-requires c κs = search needs
 
 returns-7 : tie.Need-returns-7
 unfolding sound
-returns-7 c = fails 6 (tests (c .before .before .before .before .before .before .before .before .before .before .before .before .before .before .before .before .before .before .args .self)) (sym (c .before .stood-holds .ensures) ∙ not-true _ (c .if7 .taken))
+returns-7 c = fails 6 (tests (c .before .before .before .before .before .before .before .before .before .before .before .before .before .before .before .before .before .before .before .before .args .self)) (sym (c .before .stood-holds .ensures) ∙ not-true _ (c .if7 .taken))
 
 availability-holds-requires : tie.Need-availability-holds-requires
 availability-holds-requires c κs = search needs
 
 returns-8 : tie.Need-returns-8
 unfolding sound
-returns-8 c = fails 7 (tests (c .before .before .before .before .before .before .before .before .before .before .before .before .before .before .before .before .before .before .before .before .args .self)) (sym (c .before .availability-holds .ensures) ∙ not-true _ (c .if8 .taken))
+returns-8 c = fails 7 (tests (c .before .before .before .before .before .before .before .before .before .before .before .before .before .before .before .before .before .before .before .before .before .before .args .self)) (sym (c .before .availability-holds .ensures) ∙ not-true _ (c .if8 .taken))
 
 holds-requires : tie.Need-holds-requires
 holds-requires c κs = search needs
@@ -74,8 +80,8 @@ returns-9 c =
     let if7 = if8 .before .before in
     let if6 = if7 .before .before in
     let if5 = if6 .before .before in
-    let if4 = if5 .before .before .before in
-    let if3 = if4 .before .before .before in
+    let if4 = if5 .before .before .before .before in
+    let if3 = if4 .before .before .before .before in
     let if2 = if3 .before .before in
     let if1 = if2 .before .before .before .before in
     decides 8 (tests (if1 .before .before .args .self)) _ refl (sym (if1 .before .is-kind .ensures) ∙ not-false _ (if1 .if1 .left), (sym (if2 .before .is-ttsi .ensures) ∙ not-false _ (if2 .if2 .left), (le-leb _ _ (if3 .if3 .left), (sym (if4 .before .row-holds .ensures) ∙ not-false _ (if4 .if4 .left), (sym (if5 .before .row-holds2 .ensures) ∙ not-false _ (if5 .if5 .left), (sym (if6 .before .code-holds .ensures) ∙ not-false _ (if6 .if6 .left), (sym (if7 .before .stood-holds .ensures) ∙ not-false _ (if7 .if7 .left), (sym (if8 .before .availability-holds .ensures) ∙ not-false _ (if8 .if8 .left), tt)))))))) (c .holds .ensures)
@@ -90,8 +96,10 @@ is-sound-spec =
     is-ttsi-requires
     returns-2
     returns-3
+    slice-aggregate-row-holds
     row-holds-requires
     returns-4
+    slice-aggregate-row-holds-2
     row-holds-requires-2
     returns-5
     code-holds-requires
