@@ -23,6 +23,7 @@ unfolding outcome
 one-outcome =
     record {
       empty-table = one _;
+      present = λ t. one _;
       add = λ t kind ttsi dl. one _;
       receive = λ t i p x y a b. same-received x y (a ∙ sym b);
       close = λ t i. one _;

@@ -5,7 +5,7 @@ use mathlib.Core.List.{List}
 use Prim.Native.Nat.{ℕ}
 use Rattle.payload.specs.Promises.{One}
 use Rattle.payload.specs.Reading.{answerOf}
-use Rattle.table.specs.Steps.{empty, addOf, receiveOf, closeOf, serverOf, writeRowOf}
+use Rattle.table.specs.Steps.{empty, present, addOf, receiveOf, closeOf, serverOf, writeRowOf}
 use Rattle.table.specs.declared.paths.Table.{Table}
 use Rattle.table.specs.declared.add.Added.{Added}
 use Rattle.table.specs.declared.calls.Received.{Received}
@@ -14,6 +14,7 @@ use Rattle.table.specs.declared.calls.Signalled.{Signalled}
 
 pub record OneOutcome : Type 0 where
   pub empty-table : One Table (λ r. r ≡ empty)
+  pub present : (t : Table) → One ℕ (λ r. r ≡ present t)
   pub add : (t : Table) (kind : ℕ) (ttsi : List ℕ) (dl : ℕ) → One Added (λ r. r ≡ addOf t kind ttsi dl)
   pub receive : (t : Table) (i : ℕ) (p : List ℕ) → One Received (λ r. (answerOf (r .found), r .next) ≡ receiveOf t i p)
   pub close : (t : Table) (i : ℕ) → One Closed (λ r. r ≡ closeOf t i)

@@ -47,7 +47,7 @@ fn expected_in(lsps: [Lsp; 64], n: usize, t: &[u8]) -> bool
 
 impl Table {
     // How many paths there are.
-    fn present(self) -> usize
+    pub fn present(self) -> usize
         ensures { λ r. ⌜ r ≡ present self ⌝ }
     {
         let count = self.count;
