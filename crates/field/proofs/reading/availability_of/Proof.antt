@@ -1,0 +1,14 @@
+-- `field::reading::availability_of` meets its contract. Assumes nothing.
+use borrow.Author.Needs.{needs}
+use borrow.Author.Tests.{eq-eqb, ne-eqb}
+use Rattle.field.proofs.reading.availability_of.Statement.{statement}
+use Rattle.field.proofs.reading.availability_of.Tie as tie
+
+returns : tie.Need-returns
+returns c = rw (eq-eqb _ _ (c .if1 .taken))
+
+returns-2 : tie.Need-returns-2
+returns-2 c = rw (ne-eqb _ _ (c .if1 .left))
+
+pub availability-of-spec : {M : Type 1} → statement M
+availability-of-spec = tie.close (tie.spec returns returns-2)

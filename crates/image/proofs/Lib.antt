@@ -1,0 +1,12 @@
+pub mod Octets
+pub mod Walk
+pub mod Places
+pub mod Law
+pub mod Typed
+pub mod Made
+pub mod Seen
+pub mod Turns
+pub mod Prefix
+pub mod Marked
+pub mod Answers
+pub mod Promises
