@@ -1,0 +1,11 @@
+pub mod Kept
+pub mod Reached
+pub mod Theorem
+pub mod Allowed
+pub mod Slots
+pub mod Marks
+pub mod Events
+pub mod Restart
+pub mod Corollaries
+pub mod Cases
+pub mod Examples
