@@ -1,0 +1,10 @@
+pub mod InPlace
+pub mod Called
+pub mod Steps
+pub mod Rows
+pub mod Answers
+pub mod Closes
+pub mod Adds
+pub mod Promises
+pub mod Held
+pub mod Theorem
