@@ -7,13 +7,12 @@ printed, and the exit status is then 1.
 
 usage: path_model.py [--write]     --write: write the expected output instead
 """
-import difflib
 import itertools
-import pathlib
 import sys
 
 sys.dont_write_bytecode = True  # the next lines would leave a folder here
 
+from expected import settle
 from path_rules import CODES, CV, DL, LIMIT, NAMES, OTHER, TUNNEL_8, Path, after, closes, fdi, path_of, payload
 from payload_model import KIND_LIVES, LENGTH, T, Fields, bip16, read, write
 
@@ -229,27 +228,5 @@ def cases():
         yield from part()
 
 
-# ---- the expected output
-
-
-def main(arguments):
-    """Writes the expected output, or compares it."""
-    if arguments not in ([], ["--write"]):
-        sys.exit(__doc__)
-    name = "crates/path_cases/stdout"
-    path = pathlib.Path(__file__).resolve().parent.parent / name
-    lines = [line + "\n" for line in cases()]
-    if arguments:
-        path.write_text("".join(lines))
-        print("path model: the expected output written")
-        return
-    found = path.read_text().splitlines(keepends=True) if path.exists() else []
-    diff = list(difflib.unified_diff(found, lines, name, "path model"))
-    sys.stdout.writelines(diff)
-    if diff:
-        sys.exit(1)
-    print("path model: the expected output agrees")
-
-
 if __name__ == "__main__":
-    main(sys.argv[1:])
+    settle("path model", __doc__, {"crates/path_cases/stdout": cases()}, sys.argv[1:])

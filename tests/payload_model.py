@@ -8,10 +8,12 @@ the expected output of each, crates/NAME/stdout. A difference is printed, and th
 usage: payload_model.py [--write]     --write: write the expected outputs instead
 """
 import collections
-import difflib
-import pathlib
 import sys
 from typing import NamedTuple
+
+sys.dont_write_bytecode = True  # the next line would leave a folder here
+
+from expected import settle
 
 LENGTH = 44
 
@@ -328,33 +330,13 @@ def cases():
 # ---- the expected outputs
 
 
-def differs(path, name, lines):
-    """Prints how a file differs from the lines; whether it does."""
-    found = path.read_text().splitlines(keepends=True) if path.exists() else []
-    diff = list(difflib.unified_diff(found, lines, name, "payload model"))
-    sys.stdout.writelines(diff)
-    return bool(diff)
-
-
-def main(arguments):
-    """Writes the expected outputs, or compares them."""
-    if arguments not in ([], ["--write"]):
-        sys.exit(__doc__)
+def outputs():
+    """The expected outputs of both programs; the paper's own BIP16s first."""
     bips = [written(fields)[42:].hex() for fields in SAMPLES.values()]
     if bips != BIPS:
         sys.exit(f"payload model: BIP16 {bips}, and the paper has {BIPS}")
-    root = pathlib.Path(__file__).resolve().parent.parent
-    outputs = {"crates/payload_show/stdout": show(), "crates/payload_cases/stdout": cases()}
-    texts = {name: [line + "\n" for line in lines] for name, lines in outputs.items()}
-    if arguments:
-        for name, lines in texts.items():
-            (root / name).write_text("".join(lines))
-        print(f"payload model: {len(texts)} expected outputs written")
-    elif any([differs(root / name, name, lines) for name, lines in texts.items()]):
-        sys.exit(1)
-    else:
-        print(f"payload model: {len(texts)} expected outputs agree")
+    return {"crates/payload_show/stdout": show(), "crates/payload_cases/stdout": cases()}
 
 
 if __name__ == "__main__":
-    main(sys.argv[1:])
+    settle("payload model", __doc__, outputs(), sys.argv[1:])
