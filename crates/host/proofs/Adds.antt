@@ -28,13 +28,14 @@ use Rattle.table.specs.declared.add.Added.{Added}
 use Rattle.image.specs.Image.{fieldsOf, octetsOf, imageLength, lengthOf, saveBy, isImage, imageIn, countIn, pathsOf, tableOf}
 use Rattle.image.proofs.Turns.{cell}
 use Rattle.host.specs.Calls.{tableIn, savedIn, addStep, addOf, called, openedOf}
+use Rattle.image.proofs.Answers.{whole}
 use Rattle.image.proofs.Law.{all-present}
 use Rattle.image.proofs.Octets.{drop-take, ttsi-first, ttsi-read}
 use Rattle.image.proofs.Seen.{ttsi-found}
 use Rattle.image.proofs.Turns.{fields-snoc}
 use Rattle.image.proofs.Walk.{length-paths}
 use Rattle.host.proofs.Called.{Open, not-open, goes-on, refuses, fits}
-use Rattle.host.proofs.InPlace.{table-is, present-in, count-in, lawful, whole}
+use Rattle.host.proofs.InPlace.{table-is, present-in, count-in, lawful}
 
 -- ---- one turn of the search
 

@@ -14,7 +14,7 @@ use Rattle.payload.specs.Law.{Octets}
 use Rattle.octets.specs.Parts.{laid, octetAt}
 use Rattle.octets.proofs.Parts.{put-laid, part-octets}
 use Rattle.lsp.specs.declared.path.Lsp.{Lsp}
-use Rattle.field.specs.Field.{fieldOf, pathOf, writeBy, writeOf}
+use Rattle.field.specs.Field.{fieldOf, pathOf, writeOf}
 use Rattle.field.proofs.Law.{field-law}
 use Rattle.table.specs.Steps.{nowhere, blank, present, pathAt, put}
 use Rattle.table.specs.Lawful.{Lawful}
@@ -24,6 +24,7 @@ use Rattle.image.specs.Law.{Typed}
 use Rattle.image.specs.declared.restoring.Restored.{Restored}
 use Rattle.image.proofs.Law.{image-law, all-present}
 use Rattle.image.proofs.Octets.{drop-take}
+use Rattle.image.proofs.Answers.{whole}
 use Rattle.image.proofs.Prefix.{begun}
 use Rattle.image.proofs.Turns.{cell}
 use Rattle.host.specs.Calls.{heldIn, tableIn, savedIn}
@@ -35,12 +36,6 @@ laid-past p q m a = rw (take-append-add p q a, add-assoc, drop-append-add p q (a
 
 laid-within : (q r m : List ℕ) (a : ℕ) → a + length m ≤ length q → laid (q ++ r) a m ≡ laid q a m ++ r
 laid-within q r m a h = rw (take-append-le a q r (omega arith), drop-append-le (a + length m) q r h, append-assoc, append-assoc)
-
--- a field lent as its 79 octets comes back as the path's
-pub whole : (l : Lsp) (b m : List ℕ) (r : ℕ) → length b ≡ 79 → (r, m) ≡ writeOf l b → m ≡ fieldOf l
-whole l b m r n e =
-    ap (λ (p : ℕ × List ℕ). p .1) (e ∙ ap (λ (x : Bool). writeBy x l b) (le-leb 79 (length b) (omega arith)))
-    ∙ ap (λ (x : List ℕ). fieldOf l ++ x) (drop-of-length-le b {i = 79} (omega arith)) ∙ append-nil (fieldOf l)
 
 -- ---- one field of many
 

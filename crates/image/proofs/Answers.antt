@@ -28,13 +28,15 @@ present-most t = go (ltb (t .count) 64) refl
     go true e = omega (arith, ltb-true (t .count) 64 e)
     go false e = omega arith
 
--- field i, lent as its 79 octets, comes back as the path's
-pub whole-field : (s m : List ℕ) (i r : ℕ) (l : Lsp) → 79 * i + 79 ≤ length s → (r, m) ≡ writeOf l (midOf (79 * i) (79 * i + 79 - 79 * i) s) → m ≡ fieldOf l
-whole-field s m i r l h e =
-    let b = midOf (79 * i) (79 * i + 79 - 79 * i) s in
-    let n : length b ≡ 79 = simp (cell, length-take, length-drop) (omega arith) in
+-- a field lent as its 79 octets comes back as the path's
+pub whole : (l : Lsp) (b m : List ℕ) (r : ℕ) → length b ≡ 79 → (r, m) ≡ writeOf l b → m ≡ fieldOf l
+whole l b m r n e =
     let w : writeOf l b ≡ (0, fieldOf l ++ drop 79 b) = rw (le-leb 79 (length b) (omega arith)) in
     ap (λ (p : ℕ × List ℕ). p .1) (e ∙ w) ∙ ap (λ (x : List ℕ). fieldOf l ++ x) (drop-of-length-le b {i = 79} (omega arith)) ∙ append-nil (fieldOf l)
+
+-- and so does field i
+pub whole-field : (s m : List ℕ) (i r : ℕ) (l : Lsp) → 79 * i + 79 ≤ length s → (r, m) ≡ writeOf l (midOf (79 * i) (79 * i + 79 - 79 * i) s) → m ≡ fieldOf l
+whole-field s m i r l h e = whole l (midOf (79 * i) (79 * i + 79 - 79 * i) s) m r (simp (cell, length-take, length-drop) (omega arith)) e
 
 pub mark-is : (t : List ℕ) (high low : ℕ) → length t ≡ 20 → high ≡ readOf (part t 4 8) → low ≡ readOf (part t 12 8) → high % 251 + low % 251 ≡ markOf t
 mark-is t high low n a b =
