@@ -11,9 +11,9 @@ use lib.Seq.{take-at, drop-at, drop-drop, take-all, drop-append-add, getD-take, 
 use borrow.Author.Tests.{leb-true, leb-false}
 use borrow.Rule.Slice.PartMut.{midOf, putMid}
 use Rattle.payload.specs.Law.{Octets}
-use Rattle.octets.specs.Number.{octets, numberOf, readOf}
+use Rattle.octets.specs.Number.{octets, numberOf, readOf, over}
 use Rattle.octets.specs.Parts.{joined, part, numberAt, octetAt, cutFrom, total, laid}
-use Rattle.octets.proofs.Laws.{length-octets, octets-number, number-lt, read-few}
+use Rattle.octets.proofs.Laws.{length-octets, octets-number, number-lt, over-same, read-few}
 
 cut : List ℕ → List ℕ → List (List ℕ)
 cut [] s = []
@@ -65,7 +65,7 @@ take-laid s a p h =
     rw (← append-assoc)
     (take-at (take a s ++ p) (drop (a + length p) s) (a + length p) (simp (length-append, length-take) (omega arith)))
 
-drop-laid : (s : List ℕ) (a : ℕ) (p : List ℕ) (k : ℕ) → a + length p ≤ length s → drop (a + length p + k) (laid s a p) ≡ drop (a + length p + k) s
+pub drop-laid : (s : List ℕ) (a : ℕ) (p : List ℕ) (k : ℕ) → a + length p ≤ length s → drop (a + length p + k) (laid s a p) ≡ drop (a + length p + k) s
 drop-laid s a p k h =
     let n : length (take a s ++ p) ≡ a + length p = simp (length-append, length-take) (omega arith) in
     ap (drop (a + length p + k)) (sym (append-assoc (take a s) p (drop (a + length p) s)))
@@ -91,6 +91,12 @@ lays-all {s = s} {a = a} {ps = ps} l h =
 -- a part that was lent and came back as m
 pub put-laid : (s m : List ℕ) (a k : ℕ) → k ≡ length m → putMid a k s m ≡ laid s a m
 put-laid s m a k e = rw (e, drop-drop)
+
+-- octets copied over a part that was lent, of just their length
+pub copy-laid : (s f m : List ℕ) (a k : ℕ) → k ≡ length f → a + length f ≤ length s → m ≡ over f (midOf a k s) → putMid a k s m ≡ laid s a f
+copy-laid s f m a k e h c =
+    let n : length f ≡ length (midOf a k s) = simp (length-take, length-drop) (omega arith) in
+    rw (c, over-same f (midOf a k s) n) (put-laid s f a k e)
 
 -- a number put into a part
 pub put-number-laid : (s m : List ℕ) (a w x : ℕ) → a + w ≤ length s → m ≡ octets (length (midOf a w s)) x
