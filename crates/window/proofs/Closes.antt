@@ -22,7 +22,7 @@ use Rattle.window.specs.declared.close.Turn.{Turn}
 use Rattle.window.specs.declared.close.Turned.{Turned}
 use Rattle.window.proofs.Views.{out-in, in-out, available-out-in}
 
-abbrev made : ℕ → List ℕ → List ℕ → Defect → ℕ → Availability → State
+abbrev pub made : ℕ → List ℕ → List ℕ → Defect → ℕ → Availability → State
 made n e u d t a = record { closed = n; e = e; u = u; defect = d; stood = t; availability = a }
 
 abbrev with : State → List ℕ → List ℕ → State

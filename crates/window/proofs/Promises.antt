@@ -24,6 +24,8 @@ one-outcome =
       fresh-state = one _;
       receive = λ s b. one _;
       close = λ cv s. one _;
+      is-steady = λ s. one _;
+      moved-on = λ s. one _;
     }
 
 -- ---- each case from its numbers

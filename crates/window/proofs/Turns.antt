@@ -28,7 +28,7 @@ by-standing P a b c e Mismerge h = b
 by-standing P a b c e Locv h = c
 by-standing P a b c e Excess h = e
 
-by-clear : (P : Defect → Type 0) → P Clear → (d : Defect) → standing d ≡ false → P d
+pub by-clear : (P : Defect → Type 0) → P Clear → (d : Defect) → standing d ≡ false → P d
 by-clear P a Clear h = a
 by-clear P a Mismatch h = let z : true ≡ false = h in absurd (let y : _≡_ {A = ℕ} 0 1 = cc in omega arith)
 by-clear P a Mismerge h = let z : true ≡ false = h in absurd (let y : _≡_ {A = ℕ} 0 1 = cc in omega arith)

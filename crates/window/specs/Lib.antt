@@ -1,3 +1,4 @@
 pub mod Sums
 pub mod View
+pub mod Steady
 pub mod Promises

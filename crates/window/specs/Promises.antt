@@ -7,6 +7,7 @@ use Prim.Native.Nat.{ℕ}
 use Rattle.rules.specs.Machine.{fresh, receive}
 use Rattle.window.specs.Sums.{sumsOf}
 use Rattle.window.specs.View.{standing, codeOf, unavailableOf, recordOf, view, stateOut, packetOf, turnedOf}
+use Rattle.window.specs.Steady.{isSteady, movedOn}
 use Rattle.window.specs.declared.sums.Sums.{Sums}
 use Rattle.window.specs.declared.state.Defect.{Defect}
 use Rattle.window.specs.declared.state.Availability.{Availability}
@@ -25,6 +26,8 @@ pub record OneOutcome : Type 0 where
   pub fresh-state : One State (stateOut fresh)
   pub receive : (s : State) (b : Bool) → One State (stateOut (receive (packetOf b) (view s)))
   pub close : (cv : Bool) (s : State) → One Turned (turnedOf cv s)
+  pub is-steady : (s : State) → One Bool (isSteady s)
+  pub moved-on : (s : State) → One State (movedOn s)
 
 -- the paper's numbers tell the cases of each enum apart
 pub record ByNumber : Type 0 where

@@ -5,6 +5,7 @@ ghost use Prim.Native.Nat.{ℕ, _-_};
 ghost use Rattle.rules.specs.Machine as machine;
 ghost use Rattle.rules.specs.Machine.{available, unavailable, shift, verdict, defectAfter, stoodAfter, calm, turn};
 ghost use Rattle.window.specs.View.{defectIn, defectOut, view, turnOut, turnFor, turnedOf};
+ghost use Rattle.window.specs.Steady.{meetsExit, isSteady, movedOn};
 use crate::state::Availability;
 use crate::state::Defect;
 use crate::state::LIMIT;
@@ -77,6 +78,19 @@ fn judged(n: u64, e: u16, u: u16, defect: Defect) -> Defect
         return defect;
     }
     Defect::Locv
+}
+
+// Whether the sums over three slots let a defect end.
+fn meets_exit(e: u16, u: u16) -> bool
+    ensures { λ r. ⌜ r ≡ meetsExit e u ⌝ }
+{
+    if 0 < u {
+        return false;
+    }
+    if e < 2 {
+        return false;
+    }
+    e <= 4
 }
 
 // How many closes the defect has stood, one more than before.
@@ -177,6 +191,62 @@ fn turn_for(cv: bool, n: u64, s: State, after: Defect, stands: u8, calm: bool) -
 }
 
 impl State {
+    // Whether the close of the open slot only moves the rows on: an available path with no defect, whose last three slots meet the exit.
+    pub fn is_steady(self) -> bool
+        ensures { λ r. ⌜ r ≡ isSteady self ⌝ }
+    {
+        let closed = self.closed;
+        if closed < 2 {
+            return false;
+        }
+        if LIMIT <= closed {
+            return false;
+        }
+        let e = self.e;
+        let u = self.u;
+        let three = sum_last([e, u], 3);
+        if !meets_exit(three.e, three.u) {
+            return false;
+        }
+        if self.stood != 0 {
+            return false;
+        }
+        let defect = self.defect;
+        if defect.stands() {
+            return false;
+        }
+        let availability = self.availability;
+        match availability {
+            Availability::Available => true,
+            Availability::Unavailable { since: _ } => false,
+        }
+    }
+
+    // One slot on, all else as it was; at the limit nothing moves.
+    pub fn moved_on(self) -> State
+        ensures { λ r. ⌜ r ≡ movedOn self ⌝ }
+    {
+        let closed = self.closed;
+        if LIMIT <= closed {
+            return self;
+        }
+        let e = self.e;
+        let u = self.u;
+        let next = closed + 1;
+        let next_e = shifted(e);
+        let next_u = shifted(u);
+        let defect = self.defect;
+        let availability = self.availability;
+        State {
+            closed: next,
+            e: next_e,
+            u: next_u,
+            defect,
+            stood: self.stood,
+            availability,
+        }
+    }
+
     // The close of the open slot, on a CV path or on one whose availability isn't judged: 0, or 9 at the limit, where nothing changes.
     pub fn close(self, cv: bool) -> Turned
         ensures { λ r. ⌜ r ≡ turnedOf cv self ⌝ }
