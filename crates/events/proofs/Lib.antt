@@ -1,0 +1,12 @@
+pub mod Tests
+pub mod Frames
+pub mod Decimal
+pub mod Built
+pub mod Owns
+pub mod Ways
+pub mod Told
+pub mod Runs
+pub mod Pieces
+pub mod Reached
+pub mod Examples
+pub mod Promises

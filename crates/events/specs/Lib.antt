@@ -1,0 +1,11 @@
+pub mod Framing
+pub mod Lines
+pub mod Decimal
+pub mod Building
+pub mod Event
+pub mod Own
+pub mod Paths
+pub mod Printed
+pub mod Law
+pub mod Examples
+pub mod Promises
