@@ -16,7 +16,7 @@ sys.dont_write_bytecode = True  # the next lines would leave a folder here
 from expected import settle
 from image_rules import CONTENT, WIDTHS, Path, begins, field, image_of, restore, save
 from path_rules import LIMIT, closes, payload
-from payload_model import DEFECTS, KIND_LIVES, T, Fields
+from payload_model import BDI, CV, DEFECTS, FDI, FFD, KIND_LIVES, T, Fields
 
 # ---- drawn tables
 
@@ -66,12 +66,12 @@ class Drawing:
         if x % 8 == 0:
             self.style = x // 8 % 7
         other = b"\1" + path.ttsi[1:]
-        own = Fields(0x07 if path.kind else 0x01, path.ttsi, path.kind)
+        own = Fields(FFD if path.kind else CV, path.ttsi, path.kind)
         path.receive(payload(own), expected_of(self.style, y))
-        foreign = Fields(0x07, other, 1 + y % 6) if y % 2 else Fields(0x01, other)
+        foreign = Fields(FFD, other, 1 + y % 6) if y % 2 else Fields(CV, other)
         path.receive(payload(foreign), others_of(self.style, y))
         if z % 8 <= 1:
-            path.receive(payload(Fields(0x02 + z % 8, other, dt=DTS[z // 8 % 7], dl=z)))
+            path.receive(payload(Fields(BDI if z % 8 else FDI, other, dt=DTS[z // 8 % 7], dl=z)))
         if z % 8 == 2:
             path.on = z // 8 % 2
 
@@ -164,22 +164,22 @@ def three():
     first = Path(0, T, 0xFDE8)
     second = Path(3, T[:19] + b"\x08", 0xFFFFFFFF)
     third = Path(0, T[:19] + b"\x09", 0)
-    other = payload(Fields(0x01, T[:19] + b"\x63"))
-    cv = payload(Fields(0x01, first.ttsi))
+    other = payload(Fields(CV, T[:19] + b"\x63"))
+    cv = payload(Fields(CV, first.ttsi))
     for _ in range(3):
         first.receive(cv)
         first.close()
     first.close(13)
-    first.receive(payload(Fields(0x02, bytes(20), dt=0x0102, dl=0x01020304)))
+    first.receive(payload(Fields(FDI, bytes(20), dt=0x0102, dl=0x01020304)))
     first.close()
     first.receive(cv, 15)
     for _ in range(14):
-        second.receive(payload(Fields(0x07, second.ttsi, 3)))
+        second.receive(payload(Fields(FFD, second.ttsi, 3)))
         second.receive(other)
         second.close()
     second.on = 1
     for _ in range(2):
-        third.receive(payload(Fields(0x01, third.ttsi)))
+        third.receive(payload(Fields(CV, third.ttsi)))
         third.close()
     return [path.kept() for path in (first, second, third)]
 

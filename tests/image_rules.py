@@ -9,7 +9,7 @@ from typing import NamedTuple
 sys.dont_write_bytecode = True  # the next lines would leave a folder here
 
 from path_rules import CODES, LIMIT, closes
-from payload_model import DEFECTS, KIND_LIVES, is_ttsi, read
+from payload_model import BDI, DEFECTS, FDI, KIND_LIVES, is_ttsi, read
 
 # ---- a path's history
 
@@ -32,9 +32,9 @@ class Path:
         for _ in range(times):
             number, fields = read(octets)
             assert number == 0
-            if fields.type == 0x02:
+            if fields.type == FDI:
                 self.told = self.closed() + 1, fields.dt, fields.dl
-            elif fields.type in (0x01, 0x07):
+            elif fields.type != BDI:
                 if fields.ttsi != self.ttsi:
                     self.others[-1] += 1
                 else:

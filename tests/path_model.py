@@ -13,8 +13,8 @@ import sys
 sys.dont_write_bytecode = True  # the next lines would leave a folder here
 
 from expected import settle
-from path_rules import CODES, CV, DL, LIMIT, NAMES, OTHER, TUNNEL_8, Path, after, closes, fdi, path_of, payload
-from payload_model import KIND_LIVES, LENGTH, T, Fields, bip16, read, write
+from path_rules import CODES, DL, LIMIT, NAMES, OTHER, OWN, TUNNEL_8, Path, after, closes, fdi, path_of, payload
+from payload_model import BDI, CV, FDI, FFD, KIND_LIVES, LENGTH, T, Fields, read, sealed, write
 
 # ---- the cases
 
@@ -35,18 +35,18 @@ def number_cases():
     """P5 to P12, the flood, the program's path."""
     short = {"P5 ": [0, 0], "P6 ": [0, 0, 0], "P7 ": [0, 0, 0, 1], "P8 ": [0, 0, 0, 1, 1], "P9 ": [1, 1, 2]}
     for name, counts in {**short, "P10 ": [1, 2, 2], "": [0, 0, 256]}.items():
-        yield f"{name}E {' '.join(map(str, counts))}: {told(path_of(*([CV] * k for k in counts)))}"
+        yield f"{name}E {' '.join(map(str, counts))}: {told(path_of(*([OWN] * k for k in counts)))}"
     for name, words, late in ("P11", "15 to 16", (15, 16)), ("P12", "16", (16,)):
-        path = path_of(*([CV] * (n in (1, 2, 3, *late)) for n in range(1, 17)))
+        path = path_of(*([OWN] * (n in (1, 2, 3, *late)) for n in range(1, 17)))
         yield f"{name} E 1 in slots 1 to 3 and {words}, else 0, after slot 16: {told(path)}"
-    path = path_of(*[[CV]] * 3, *[[]] * 17, *[[CV]] * 9)
+    path = path_of(*[[OWN]] * 3, *[[]] * 17, *[[OWN]] * 9)
     yield f"the program's path, E 1 in slots 1 to 3, 0 in 4 to 20, 1 in 21 to 29: {told(path)}"
     yield f"FFD path of rate 3, E 0 in slots 1 to 20: {told(path_of(*[[]] * 20, kind=3))}"
 
 
 def early(own, other, fdis, server):
     """What came in slot 3, in words, and the path with that slot open; FDIs have DL 1, 2 and so on."""
-    payloads = [CV] * own + [OTHER] * other + [fdi(k + 1) for k in range(fdis)]
+    payloads = [OWN] * own + [OTHER] * other + [fdi(k + 1) for k in range(fdis)]
     words = f"slot 3 with CV, CV of another TTSI, FDI, server signal {own} {other} {fdis} {server}"
     return words, after(path_of([], []), *payloads, server)
 
@@ -97,26 +97,21 @@ def received(kind, words, octets):
     return f"kind {kind} receives {words}, answer, E and U of the open slot, path unchanged: {found}"
 
 
-def sealed(before):
-    """Octets with the BIP16 that is right."""
-    return before + bip16(before)
-
-
 def turned(at, x):
     """A CV with the bits of x turned at an offset."""
-    return CV[:at] + bytes([CV[at] ^ x]) + CV[at + 1 :]
+    return OWN[:at] + bytes([OWN[at] ^ x]) + OWN[at + 1 :]
 
 
 def receiving_cases():
     """Payloads of every type, and refused ones."""
-    rows = {0: [(0x01, 0), (0x07, 1), (0x07, 3), (0x02, 0), (0x03, 0)]}
-    rows[3] = [(0x01, 0), (0x07, 3), (0x07, 4), (0x02, 0), (0x03, 0)]
+    rows = {0: [(CV, 0), (FFD, 1), (FFD, 3), (FDI, 0), (BDI, 0)]}
+    rows[3] = [(CV, 0), (FFD, 3), (FFD, 4), (FDI, 0), (BDI, 0)]
     for ttsi, words in (T, ""), (TUNNEL_8, " of another TTSI"):
         for kind, function_type, rate in ((kind, *row) for kind in rows for row in rows[kind]):
             fields = Fields(function_type, ttsi, rate, 0x0102, 2)
             rates = f" rate {rate}" if rate else ""
             yield received(kind, f"{NAMES[function_type]}{rates}{words}", payload(fields))
-    yield received(0, "CV, cut to 43 octets", CV[:43])
+    yield received(0, "CV, cut to 43 octets", OWN[:43])
     yield received(0, "CV, at offset 43 turned by 1", turned(43, 1))
     for at, x in (0, 4), (41, 1):
         words = f"CV, at offset {at} turned by {x}, BIP16 made right"
@@ -134,7 +129,7 @@ def writing_cases():
     """FDI and BDI, written after slot 3 into the first of 50 octets of aa."""
     cases_of = [((3, 0, 0, 0), 50), ((3, 0, 0, 0), 43), ((0, 0, 0, 0), 43), ((0, 0, 0, 0), 44), ((0, 0, 0, 0), 50)]
     cases_of += [((0, 0, 0, 1), 50), ((0, 0, 1, 0), 50), ((0, 1, 0, 0), 50), ((1, 1, 1, 0), 50), ((5, 0, 0, 0), 50)]
-    for function_type in 0x02, 0x03:
+    for function_type in FDI, BDI:
         for case, size in cases_of:
             words, path = early(*case)
             assert path.close() == 0

@@ -4,15 +4,18 @@ A path here is its history: how many packets came in every slot, and every FDI w
 reckoned from that by the rules; payloads are read and written by payload_model. path_model runs the cases over it.
 """
 import copy
+import functools
 import itertools
 from typing import NamedTuple, Optional
 
-from payload_model import KIND_LIVES, LENGTH, T, Fields, read, write
+from payload_model import BDI, CV, FDI, KIND_LIVES, LENGTH, ROWS, T, Fields, read, write
 
 LIMIT = 1_000_000_000_000
 CODES = {"Mismatch": 0x0202, "Mismerge": 0x0203, "LOCV": 0x0201, "Excess": 0x0204}
-NAMES = {0x01: "CV", 0x02: "FDI", 0x03: "BDI", 0x07: "FFD"}
+NAMES = {function_type: name for function_type, (name, _) in ROWS.items()}
 EXIT = "exit"
+
+reading = functools.lru_cache(4096)(read)  # most packets of a history are the same few
 
 # ---- the rules, over the counts of the slots
 
@@ -107,13 +110,13 @@ def payload(fields):
 
 DL = 0x0000FDE8
 TUNNEL_8 = T[:-1] + b"\x08"
-CV = payload(Fields(0x01, T))
-OTHER = payload(Fields(0x01, TUNNEL_8))
+OWN = payload(Fields(CV, T))
+OTHER = payload(Fields(CV, TUNNEL_8))
 
 
 def fdi(dl):
     """An FDI with DT 0102."""
-    return payload(Fields(0x02, TUNNEL_8, dt=0x0102, dl=dl))
+    return payload(Fields(FDI, TUNNEL_8, dt=0x0102, dl=dl))
 
 
 class Out(NamedTuple):
@@ -131,8 +134,8 @@ class Path:
     Slots may have closed before the history begins, all without a packet.
     """
 
-    def __init__(self, kind=0, earlier=0):
-        self.kind, self.earlier = kind, earlier
+    def __init__(self, kind=0, earlier=0, ttsi=T):
+        self.kind, self.earlier, self.ttsi = kind, earlier, ttsi
         self.expected, self.others = [0], [0]
         self.fdis = []
         self.on = 0
@@ -146,17 +149,17 @@ class Path:
 
     def receive(self, octets):
         """The number."""
-        number, fields = read(octets)
+        number, fields = reading(octets)
         if number != 0:
             return number
-        if fields.type == 0x02:
+        if fields.type == FDI:
             self.fdis.append((self.closed() + 1, fields.dt, fields.dl))
-        if fields.type in (0x02, 0x03):
+        if fields.type in (FDI, BDI):
             return 0
-        if fields.ttsi != T:
+        if fields.ttsi != self.ttsi:
             self.others[-1] += 1
             return 0
-        if fields.rate != self.kind:
+        if fields.rate != self.kind:  # a CV has rate 0
             return 6
         self.expected[-1] += 1
         return 0

@@ -16,15 +16,16 @@ sys.dont_write_bytecode = True  # the next line would leave a folder here
 from expected import settle
 
 LENGTH = 44
+CV, FDI, BDI, FFD = 0x01, 0x02, 0x03, 0x07  # function types
 
 # ---- the paper's table: of each type the name, and its columns before BIP16, a field or zeros, with their widths
 
 DEFECT_ROW = [("zero", 1), ("dt", 2), ("ttsi", 20), ("dl", 4), ("zero", 14)]
 ROWS = {
-    0x01: ("CV", [("zero", 1), ("zero", 2), ("ttsi", 20), ("zero", 18)]),
-    0x07: ("FFD", [("zero", 1), ("zero", 2), ("ttsi", 20), ("rate", 1), ("zero", 17)]),
-    0x02: ("FDI", DEFECT_ROW),
-    0x03: ("BDI", DEFECT_ROW),
+    CV: ("CV", [("zero", 1), ("zero", 2), ("ttsi", 20), ("zero", 18)]),
+    FFD: ("FFD", [("zero", 1), ("zero", 2), ("ttsi", 20), ("rate", 1), ("zero", 17)]),
+    FDI: ("FDI", DEFECT_ROW),
+    BDI: ("BDI", DEFECT_ROW),
 }
 
 INTERVALS = {1: 10, 2: 20, 3: 50, 4: 100, 5: 200, 6: 500}
@@ -76,6 +77,11 @@ def bip16(before):
     return total.to_bytes(2, "big")
 
 
+def sealed(before):
+    """Octets with the BIP16 that is right."""
+    return before + bip16(before)
+
+
 def read(p):
     """The answer's number and, on 0, the fields; else none."""
     if len(p) != LENGTH:
@@ -105,17 +111,17 @@ def write(fields, buffer):
     if len(buffer) < LENGTH:
         return 11
     before = bytes([fields.type]) + b"".join(fields.octets(*column) for column in columns)
-    buffer[:LENGTH] = before + bip16(before)
+    buffer[:LENGTH] = sealed(before)
     return 0
 
 
 # ---- the payloads P1 to P4
 
 T = bytes(10) + bytes([0xFF, 0xFF, 0xC0, 0x00, 0x02, 0x01]) + bytes([0, 0, 0, 7])
-P1 = Fields(0x01, T)
-P2 = Fields(0x07, T, rate=3)
-P3 = Fields(0x02, bytes(20), dt=0x0201, dl=0x0000FDE8)
-P4 = Fields(0x03, bytes(20), dt=0x0201, dl=0x0000FDE8)
+P1 = Fields(CV, T)
+P2 = Fields(FFD, T, rate=3)
+P3 = Fields(FDI, bytes(20), dt=0x0201, dl=0x0000FDE8)
+P4 = Fields(BDI, bytes(20), dt=0x0201, dl=0x0000FDE8)
 SAMPLES = {"P1 CV": P1, "P2 FFD": P2, "P3 FDI": P3, "P4 BDI": P4}
 BIPS = ["3cf9", "39f9", "fde9", "fce9"]
 OTHERS = {  # all ones in what the row does not name
@@ -293,7 +299,7 @@ def lent_cases():
         outcomes = [into_aa(fields, size) for size in range(65)]
         yield f"{name}, written into 0 to 64 octets of aa, {tally(number for number, _ in outcomes)}"
         yield f"{name}, so written, buffers left as they were: {kept(buffer for _, buffer in outcomes)}"
-    short = {"CV": P1, "type 0": Fields(0, T), "FFD rate 0": Fields(0x07, T), "FDI DT 0000": Fields(0x02, T)}
+    short = {"CV": P1, "type 0": Fields(0, T), "FFD rate 0": Fields(FFD, T), "FDI DT 0000": Fields(FDI, T)}
     for name, fields in short.items():
         number, buffer = into_aa(fields, 43)
         yield f"{name} with T into 43 octets of aa, answer, octets untouched: {number} {buffer.count(0xAA)}"
@@ -317,7 +323,7 @@ def ttsi_cases():
     edges["20 zeros but octet 16"] = bytes(16) + b"\1" + bytes(3)
     edges["20 zeros but octet 17"] = bytes(17) + b"\1" + bytes(2)
     for name, octets in edges.items():
-        number, _ = into_aa(Fields(0x01, octets), LENGTH)
+        number, _ = into_aa(Fields(CV, octets), LENGTH)
         yield f"{name}, whether they are a TTSI, answer as CV: {int(is_ttsi(octets))} {number}"
 
 
