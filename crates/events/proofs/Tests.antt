@@ -1,24 +1,15 @@
 -- The field that octets begin with, by what the code tests. Assumes nothing.
 use borrow.Author.Tests.{lt-leb, le-leb, eqb-true, ne-eqb}
 use mathlib.Core.Bool.{Bool, true, false}
-use mathlib.Core.List.{List, [], _∷_}
-use mathlib.Core.Path.{_≡_, refl, sym, ap, _∙_}
-use native.Mathlib.Omega.{arith}
-use Prim.Native.Nat.{ℕ, _+_, _*_, _≤_, _<_}
+use mathlib.Core.List.{List}
+use mathlib.Core.Path.{_≡_, sym, ap, _∙_}
+use Prim.Native.Nat.{ℕ, _+_, _≤_, _<_}
 use lib.Dec.{eqb, leb}
-use lib.ListN.{length, getD}
-use Rattle.octets.specs.Number.{numberFrom}
+use lib.ListN.{length}
 use Rattle.payload.specs.Test.{pick, both}
 use Rattle.octets.specs.Parts.{numberAt, octetAt}
 use Rattle.events.specs.Framing.{fits, sizeIn, signalFits, frameBy, frameOf}
 use Rattle.events.specs.declared.framing.Field.the-variants.{Cut, Bad, Whole}
-
-pub two-octets : (s : List ℕ) → 3 ≤ length s → getD s 1 0 * 256 + getD s 2 0 ≡ numberAt s 1 2
-unfolding numberFrom
-two-octets [] h = absurd (omega (arith, h))
-two-octets (a ∷ []) h = absurd (omega (arith, h))
-two-octets (a ∷ b ∷ []) h = absurd (omega (arith, h))
-two-octets (a ∷ b ∷ d ∷ s) h = ap (λ (k : ℕ). k * 256 + d) (sym (omega arith))
 
 -- the contents of packets, and of no tag
 pub too-few : (n : ℕ) → n < 1 → false ≡ fits 0x12 n

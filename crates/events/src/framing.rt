@@ -1,6 +1,5 @@
 // One field of the input: tag, length, content.
 ghost use mathlib.Core.Path.{_≡_};
-ghost use Prim.Native.Nat.{_<_};
 ghost use Rattle.events.specs.Framing.{fits, frameOf};
 
 pub(crate) const ADD: u8 = 0x11;
@@ -16,12 +15,6 @@ pub enum Field {
     Cut,
     Bad,
     Whole { size: usize },
-}
-
-fn wide(b: u8) -> usize
-    ensures { λ r. ⌜ (r ≡ b) × (r < 256) ⌝ }
-{
-    b as usize
 }
 
 // Whether a field of the tag may have so many octets of content.
@@ -50,7 +43,7 @@ pub fn frame(s: &[u8]) -> Field
         return Field::Cut;
     }
     let tag = s[0];
-    let n = wide(s[1]) * 256 + wide(s[2]);
+    let n = octets::number(&s[1..3]) as usize;
     if !fits(tag, n) {
         return Field::Bad;
     }

@@ -2,7 +2,7 @@
 ghost use mathlib.Core.Path.{_≡_};
 ghost use mathlib.Core.List.{[], _∷_, _++_};
 ghost use lib.ListN.{length};
-ghost use Prim.Native.Nat.{_+_, _-_, _≤_};
+ghost use Prim.Native.Nat.{_+_, _≤_};
 ghost use Rattle.events.specs.Lines.{decimal, recordLine, refusedLine, endLine, badLine, lineOf, lastLine};
 ghost use Rattle.octets.specs.Parts.{laid};
 ghost use Rattle.events.specs.Building.{textOf};

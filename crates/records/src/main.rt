@@ -6,7 +6,7 @@ use events::Rest;
 use libc::STDIN_FILENO;
 use libc::STDOUT_FILENO;
 
-// Room for many fields, and for the lines of as many events as the smallest fields make of them.
+// Room for thousands of fields, and for the lines of some 8,000 events: where a read brings more, it takes another run.
 const INPUT: usize = 131072;
 
 const OUTPUT: usize = 524288;
@@ -102,6 +102,7 @@ fn taken(r: Reckoning, buf: &mut [u8], have: usize, out: &mut [u8]) -> Held {
 fn fed(held: Held, buf: &mut [u8], out: &mut [u8]) -> Held {
     let r = held.reckoning;
     let n = held.octets;
+    // Never: less than one field is held back, at most 1,026 octets.
     if buf.len() <= n {
         return over(r);
     }
