@@ -67,11 +67,11 @@ class Drawing:
             self.style = x // 8 % 7
         other = b"\1" + path.ttsi[1:]
         own = Fields(FFD if path.kind else CV, path.ttsi, path.kind)
-        path.receive(payload(own), expected_of(self.style, y))
+        path.hear(payload(own), expected_of(self.style, y))
         foreign = Fields(FFD, other, 1 + y % 6) if y % 2 else Fields(CV, other)
-        path.receive(payload(foreign), others_of(self.style, y))
+        path.hear(payload(foreign), others_of(self.style, y))
         if z % 8 <= 1:
-            path.receive(payload(Fields(BDI if z % 8 else FDI, other, dt=DTS[z // 8 % 7], dl=z)))
+            path.hear(payload(Fields(BDI if z % 8 else FDI, other, dt=DTS[z // 8 % 7], dl=z)))
         if z % 8 == 2:
             path.on = z // 8 % 2
 
@@ -167,19 +167,20 @@ def three():
     other = payload(Fields(CV, T[:19] + b"\x63"))
     cv = payload(Fields(CV, first.ttsi))
     for _ in range(3):
-        first.receive(cv)
+        first.hear(cv)
         first.close()
-    first.close(13)
-    first.receive(payload(Fields(FDI, bytes(20), dt=0x0102, dl=0x01020304)))
+    for _ in range(13):
+        first.close()
+    first.hear(payload(Fields(FDI, bytes(20), dt=0x0102, dl=0x01020304)))
     first.close()
-    first.receive(cv, 15)
+    first.hear(cv, 15)
     for _ in range(14):
-        second.receive(payload(Fields(FFD, second.ttsi, 3)))
-        second.receive(other)
+        second.hear(payload(Fields(FFD, second.ttsi, 3)))
+        second.hear(other)
         second.close()
     second.on = 1
     for _ in range(2):
-        third.receive(payload(Fields(CV, third.ttsi)))
+        third.hear(payload(Fields(CV, third.ttsi)))
         third.close()
     return [path.kept() for path in (first, second, third)]
 

@@ -1,6 +1,6 @@
 """The table's image by the paper's page: a path as its history, the image made of it, and the test that restoring runs.
 
-A path here is its history, as in path_rules, whose rules say what stands after it; payload_model reads the payloads.
+A path here is its history, as in path_rules, whose rules say what stands after it.
 """
 import itertools
 import sys
@@ -8,55 +8,35 @@ from typing import NamedTuple
 
 sys.dont_write_bytecode = True  # the next lines would leave a folder here
 
-from path_rules import CODES, LIMIT, closes
-from payload_model import BDI, DEFECTS, FDI, KIND_LIVES, is_ttsi, read
+import path_rules
+from path_rules import CODES, LIMIT
+from payload_model import DEFECTS, KIND_LIVES, is_ttsi
 
 # ---- a path's history
 
 
-class Path:
-    """Counts of each slot, the open one last; the latest FDI and the slot it came in; the server signal."""
+class Path(path_rules.Path):
+    """A history, with the local DL."""
 
     def __init__(self, kind, ttsi, dl):
-        self.kind, self.ttsi, self.dl = kind, ttsi, dl
-        self.expected, self.others = [0], [0]
-        self.told = None
-        self.on = 0
+        super().__init__(kind, ttsi=ttsi)
+        self.dl = dl
 
-    def closed(self):
-        """How many slots are."""
-        return len(self.expected) - 1
-
-    def receive(self, octets, times=1):
-        """Payloads that are not refused."""
+    def hear(self, octets, times=1):
+        """A payload that is not refused, so many times."""
         for _ in range(times):
-            number, fields = read(octets)
-            assert number == 0
-            if fields.type == FDI:
-                self.told = self.closed() + 1, fields.dt, fields.dl
-            elif fields.type != BDI:
-                if fields.ttsi != self.ttsi:
-                    self.others[-1] += 1
-                else:
-                    assert fields.rate == self.kind
-                    self.expected[-1] += 1
-
-    def close(self, times=1):
-        """Slots closed."""
-        self.expected += [0] * times
-        self.others += [0] * times
+            assert self.receive(octets) == 0
 
     def kept(self):
         """What the image has of it."""
-        found = list(closes(self.expected[:-1], self.others[:-1], cv=self.kind == 0))
+        found = self.history()
         stood = len(list(itertools.takewhile(lambda close: close.kind, reversed(found))))
         since = found[-1].since if found else None
         left, dt, dl = 0, 0, 0
-        if self.told:
-            came, *fdi = self.told
+        if self.fdi():
             # the close of slot came + life is the first without it
-            if self.closed() < came + KIND_LIVES[self.kind]:
-                left, (dt, dl) = came + KIND_LIVES[self.kind] - self.closed(), fdi
+            came, dt, dl = self.fdis[-1]
+            left = came + KIND_LIVES[self.kind] - self.closed()
         return Kept(
             self.kind,
             self.ttsi,
