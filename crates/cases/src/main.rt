@@ -1,5 +1,7 @@
 // The records program's rules, run: a line a case, its name first, then pass or fail. Each stream is fed in one piece, octet by octet, and
 // in pieces of 7 octets with room for one line; each text was worked out from the paper.
+#![tactic(auto)]
+
 mod build;
 mod feed;
 mod framing;

@@ -1,5 +1,7 @@
 // Saving and restoring, run: tables drawn from seeds, an image of three paths with each octet changed, and damages made by hand. A line
 // a claim, its words first, then what can be held against the paper by hand.
+#![tactic(auto)]
+
 mod census;
 mod compare;
 mod drawn;

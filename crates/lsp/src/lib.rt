@@ -3,6 +3,8 @@
 // `specs/Steps.antt` says what each step answers and leaves, `specs/Theorem.antt` what follows for any list of steps: the defect,
 // availability and every record are what the window rules give from the path's history. `specs/Sound.antt` has the rules that the image
 // asks of a path, which every step keeps. One close changes a record where it stands: `specs/InPlace.antt`.
+#![tactic(auto)]
+
 pub mod close;
 pub mod path;
 pub mod place;

@@ -1,6 +1,8 @@
 // Numbers as octets, the most significant first, at any width.
 //
 // `specs/Number.antt` says which octets a number has and which number octets stand for, `specs/Law.antt` that the two are inverse.
+#![tactic(auto)]
+
 ghost use Rattle.std.specs.Prelude.{◌≡◌, length};
 ghost use Rattle.octets.specs.Number.{octets, read_of, over};
 

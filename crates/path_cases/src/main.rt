@@ -1,5 +1,7 @@
 // The edges of one path, run: a line a claim, its words first, then what can be held against the paper by hand. Last comes a long
 // random run, held close by close against a plain recount of the same packets.
+#![tactic(auto)]
+
 mod kept;
 mod limit;
 mod lives;

@@ -3,6 +3,8 @@
 // `read` gives the fields of the type's row, `ttsi` the part that holds the TTSI, `write` the octets of given fields.
 // `specs/Layout.antt` says what the octets are, `specs/Law.antt` what is proved of reading and writing together.
 // Nothing here keeps a state, copies a payload or asks anything of its caller.
+#![tactic(auto)]
+
 mod bip16;
 pub mod layout;
 pub mod rates;

@@ -1,4 +1,6 @@
 // The edges of the payload, run: a line a claim, its words first, then numbers that can be reckoned by hand.
+#![tactic(auto)]
+
 mod compare;
 mod damaged;
 mod lent;

@@ -1,4 +1,6 @@
 // The payloads P1 to P4 of the paper, a line each: written from their fields, shown octet by octet, and read back.
+#![tactic(auto)]
+
 use libc::STDOUT_FILENO;
 use payload::{DefectType, Found, FunctionType, LENGTH, Rate};
 

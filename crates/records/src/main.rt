@@ -1,6 +1,8 @@
 // The records program: events on standard input, `LSP U from until` and the other lines on standard output, in memory that doesn't grow.
 //
 // What it prints is decided by the crate `events`; here are only the reads, the writes, and the octets that wait for the rest of their field.
+#![tactic(auto)]
+
 use events::{Reckoning, Rest};
 use libc::{STDIN_FILENO, STDOUT_FILENO};
 

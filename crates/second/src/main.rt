@@ -3,6 +3,8 @@
 // each record by looking back over them, so no mistake of a carried state can be in both.
 //
 // Where a path's kept slots are used up it prints `full` and the field's offset, and stops.
+#![tactic(auto)]
+
 mod back;
 mod event;
 mod field;

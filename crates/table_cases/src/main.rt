@@ -1,4 +1,6 @@
 // The edges of a table, run: a line a claim, its words first, then numbers that can be reckoned by hand.
+#![tactic(auto)]
+
 mod made;
 mod text;
 
