@@ -9,14 +9,14 @@ use crate::state::{Availability, Defect, LIMIT, Record, State, one_more};
 use crate::sums::sum_last;
 
 // What a close answers: its number, the state after it, and the record that it hands out.
-#[derive(Drop)]
+#[derive(Clone, Copy)]
 pub struct Turned {
     pub number: u8,
     pub state: State,
     pub handed: Record,
 }
 
-#[derive(Drop)]
+#[derive(Clone, Copy)]
 pub(crate) struct Turn {
     pub availability: Availability,
     pub handed: Record,

@@ -7,7 +7,7 @@ ghost use Rattle.rules.specs.Machine.{fresh, receive, count_up};
 pub const LIMIT: u64 = 1000000000000;
 
 // The defect that stands, by its kind.
-#[derive(Drop)]
+#[derive(Clone, Copy)]
 pub enum Defect {
     Clear,
     Mismatch,
@@ -16,21 +16,21 @@ pub enum Defect {
     Excess,
 }
 
-#[derive(Drop)]
+#[derive(Clone, Copy)]
 pub enum Availability {
     Available,
     Unavailable { since: u64 },
 }
 
 // What a close hands out: the first slot out, and the first no longer out.
-#[derive(Drop)]
+#[derive(Clone, Copy)]
 pub enum Record {
     Nothing,
     U { from: u64, until: u64 },
     B { from: u64, until: u64 },
 }
 
-#[derive(Drop)]
+#[derive(Clone, Copy)]
 pub struct State {
     pub closed: u64,
     // Counts of the last ten slots and the open one, oldest first: at most 12, and at most 1.

@@ -3,7 +3,7 @@ ghost use Rattle.std.specs.Prelude.{◌≡◌, ◌-◌, ◌<◌};
 ghost use Rattle.rules.specs.Machine.{last_of};
 ghost use Rattle.window.specs.Sums.{sums_of};
 
-#[derive(Drop)]
+#[derive(Clone, Copy)]
 pub struct Sums {
     pub e: u16,
     pub u: u16,
