@@ -7,7 +7,7 @@ use payload::DefectType;
 use window::{Defect, Record};
 
 // What goes out of a path: the defect type and location of its FDI and BDI, zero where no defect stands, and what its alarm and its traffic do.
-#[derive(Drop)]
+#[derive(Clone, Copy)]
 pub struct Out {
     pub dt: u16,
     pub dl: u32,
@@ -15,7 +15,7 @@ pub struct Out {
     pub suppression: bool,
 }
 
-#[derive(Drop)]
+#[derive(Clone, Copy)]
 pub struct Closed {
     pub number: u8,
     pub defect: Defect,

@@ -5,14 +5,14 @@ ghost use Rattle.lsp.specs.Steps.{new_of, server_of};
 use window::State;
 
 // An FDI received and the closes until it is gone; all zero where none stands.
-#[derive(Drop)]
+#[derive(Clone, Copy)]
 pub struct Fdi {
     pub left: u16,
     pub dt: u16,
     pub dl: u32,
 }
 
-#[derive(Drop)]
+#[derive(Clone, Copy)]
 pub struct Lsp {
     // 0 for CV, else the rate code; the expected TTSI; the local defect location.
     pub kind: u8,
@@ -23,7 +23,7 @@ pub struct Lsp {
     pub fdi: Fdi,
 }
 
-#[derive(Drop)]
+#[derive(Clone, Copy)]
 pub struct Signalled {
     pub number: u8,
     pub next: Lsp,

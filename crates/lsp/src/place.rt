@@ -7,7 +7,7 @@ use crate::path::Lsp;
 use window::{Defect, Record};
 
 // As the close by value answers; the next state is where the record stands.
-#[derive(Drop)]
+#[derive(Clone, Copy)]
 pub struct ClosedHere {
     pub number: u8,
     pub defect: Defect,
@@ -16,7 +16,7 @@ pub struct ClosedHere {
 }
 
 // The answer, and the record to leave.
-#[derive(Drop)]
+#[derive(Clone, Copy)]
 struct InPlace {
     pub answer: ClosedHere,
     pub next: Lsp,

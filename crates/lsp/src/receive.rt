@@ -7,7 +7,7 @@ use crate::path::{Fdi, Lsp};
 use payload::{Found, Kind};
 
 // What the reader answers of the payload, or 6, and the path afterwards.
-#[derive(Drop)]
+#[derive(Clone, Copy)]
 pub struct Received {
     pub found: Found,
     pub next: Lsp,

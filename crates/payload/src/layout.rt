@@ -14,7 +14,7 @@ pub(crate) const OWN: usize = 24;
 
 pub(crate) const BIP: usize = 42;
 
-#[derive(Drop)]
+#[derive(Clone, Copy)]
 pub struct FunctionType;
 
 impl FunctionType {
@@ -42,7 +42,7 @@ impl FunctionType {
     }
 }
 
-#[derive(Drop)]
+#[derive(Clone, Copy)]
 pub struct DefectType;
 
 impl DefectType {

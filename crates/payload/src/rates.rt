@@ -2,7 +2,7 @@
 ghost use Rattle.std.specs.Prelude.{◌≡◌};
 ghost use Rattle.payload.specs.Rates.{is_rate, interval_of, rate_life_of, is_kind, slot_of, life_of};
 
-#[derive(Drop)]
+#[derive(Clone, Copy)]
 pub struct Rate;
 
 impl Rate {
@@ -72,7 +72,7 @@ impl Rate {
 }
 
 // A path's kind: 0 for CV, else its rate code.
-#[derive(Drop)]
+#[derive(Clone, Copy)]
 pub struct Kind;
 
 impl Kind {

@@ -8,7 +8,7 @@ use crate::bip16::every_second;
 use crate::layout::{BIP, FunctionType, LENGTH, OWN, TTSI, may_write};
 
 // What a payload says, its TTSI apart, or the number of its refusal.
-#[derive(Drop)]
+#[derive(Clone, Copy)]
 pub enum Found {
     Cv,
     Ffd { rate: u8 },
