@@ -7,7 +7,7 @@ use lsp::Lsp;
 use payload::{Kind, is_ttsi};
 
 // The number of the answer, the number of the path where that is 0, and the table afterwards.
-#[derive(Drop)]
+#[derive(Clone, Copy)]
 pub struct Added {
     pub number: u8,
     pub lsp: u64,

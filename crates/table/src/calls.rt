@@ -8,13 +8,13 @@ use lsp::Out;
 use payload::Found;
 use window::{Defect, Record};
 
-#[derive(Drop)]
+#[derive(Clone, Copy)]
 pub struct Received {
     pub found: Found,
     pub next: Table,
 }
 
-#[derive(Drop)]
+#[derive(Clone, Copy)]
 pub struct Closed {
     pub number: u8,
     pub defect: Defect,
@@ -23,7 +23,7 @@ pub struct Closed {
     pub next: Table,
 }
 
-#[derive(Drop)]
+#[derive(Clone, Copy)]
 pub struct Signalled {
     pub number: u8,
     pub next: Table,

@@ -6,7 +6,7 @@ use lsp::Lsp;
 
 pub const MOST: u64 = 64;
 
-#[derive(Drop)]
+#[derive(Clone, Copy)]
 pub struct Table {
     pub count: u64,
     // Places past the last path are read by no call.

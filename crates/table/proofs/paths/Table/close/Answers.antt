@@ -1,0 +1,22 @@
+-- `table::Table::close` meets its contract.
+-- Assumes nothing.
+use mathlib.Core.Path.{sym, ◌∙◌}
+use native.Mathlib.Omega.{arith}
+use Rattle.table.proofs.Places.{few}
+use Rattle.table.proofs.Outcomes.{no_close, closes}
+use Rattle.table.proofs.paths.Table.close.Goals as goal
+
+pub returns-then-not-has : goal.returns-then-not-has
+returns-then-not-has c = no_close c.args.self c.args.lsp (sym c.has.ensures ∙ c.if-not-has.true)
+
+pub bounds-self-at : goal.bounds-self-at
+bounds-self-at c = omega (arith, few c.args.self c.args.lsp (sym c.has.ensures ∙ c.if-not-has.false))
+
+pub bounds-next-at : goal.bounds-next-at
+bounds-next-at c = omega (arith, few c.args.self c.args.lsp (sym c.has.ensures ∙ c.if-not-has.false))
+
+pub returns : goal.returns
+returns c =
+    let a = c.args in
+    let h = sym c.has.ensures ∙ c.if-not-has.false in
+    closes a.self a.lsp h c.close-c.result c.close-c.ensures
