@@ -201,19 +201,19 @@ module _ (l : Lsp) (h : Sound l) where
 -- ---- the law
 
 module _ (s : List ℕ) where
-  path_of : length s ≡ 79 → path_of s ≡ path_in s
-  path_of n = rw (eq-eqb (length s) 79 n)
+  path_within : length s ≡ 79 → path_of s ≡ path_in s
+  path_within n = rw (eq-eqb (length s) 79 n)
 
 pub field_law : FieldLaw
 field_law =
     record {
       law = λ s l o. (
         λ p.
-            let e : path_in s ≡ l = sym (path_of s (size s o p.0)) ∙ p.1 in
+            let e : path_in s ≡ l = sym (path_within s (size s o p.0)) ∙ p.1 in
             (subst Sound e (path_sound s o p.0), subst Typed e (path_typed s o p.0), sym (field_back s o p.0) ∙ ap field_of e),
         λ q.
             let e : s ≡ field_of l = q.2 in
-            (ap is_field e ∙ field_forth l q.0 q.1, path_of s (ap length e ∙ length-field l q.0) ∙ ap path_in e ∙ path_forth l q.0 q.1),
+            (ap is_field e ∙ field_forth l q.0 q.1, path_within s (ap length e ∙ length-field l q.0) ∙ ap path_in e ∙ path_forth l q.0 q.1),
       );
       size = length-field;
     }
