@@ -11,7 +11,7 @@ pub(crate) const CLOSE: u8 = 0x13;
 pub(crate) const SERVER: u8 = 0x14;
 
 // What octets begin with: a field that more octets may complete, one that is bad whatever follows, or a whole one of so many octets.
-#[derive(Drop)]
+#[derive(Clone, Copy)]
 pub enum Field {
     Cut,
     Bad,

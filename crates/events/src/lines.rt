@@ -10,7 +10,7 @@ use window::Record;
 pub(crate) const LINE: usize = 65;
 
 // A line's last octets, from a place to the end of the array.
-#[derive(Drop)]
+#[derive(Clone, Copy)]
 pub(crate) struct Line {
     pub octets: [u8; LINE],
     pub from: usize,

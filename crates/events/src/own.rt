@@ -6,7 +6,7 @@ use lsp::Lsp;
 use payload::{FunctionType, LENGTH};
 
 // A path whose kind or TTSI breaks its rule, as no call makes one, has none.
-#[derive(Drop)]
+#[derive(Clone, Copy)]
 pub(crate) struct Own {
     pub there: bool,
     pub octets: [u8; LENGTH],

@@ -12,7 +12,7 @@ use table::{Added, Table};
 use window::Record;
 
 // Where the program is: the paths, and how many events and octets of whole fields lie behind.
-#[derive(Drop)]
+#[derive(Clone, Copy)]
 pub struct Reckoning {
     pub table: Table,
     pub events: u64,
@@ -20,14 +20,14 @@ pub struct Reckoning {
 }
 
 // What stands where a run ends: perhaps an event more; nothing, or a field that more octets may complete; a bad field.
-#[derive(Drop)]
+#[derive(Clone, Copy)]
 pub enum Rest {
     Going,
     Cut,
     Bad,
 }
 
-#[derive(Drop)]
+#[derive(Clone, Copy)]
 pub struct Ran {
     pub next: Reckoning,
     // Octets taken from the input, and octets of lines in the lent buffer.

@@ -10,7 +10,7 @@ use lsp::Lsp;
 use window::Record;
 
 // The number of the answer, the record handed out, and the path afterwards.
-#[derive(Drop)]
+#[derive(Clone, Copy)]
 pub(crate) struct Stepped {
     pub number: u8,
     pub handed: Record,
@@ -18,7 +18,7 @@ pub(crate) struct Stepped {
 }
 
 // Its own packet is counted, a slot is moved on with nothing else to do, or the path steps.
-#[derive(Drop)]
+#[derive(Clone, Copy)]
 pub(crate) enum Way {
     Counts,
     MovesOn,

@@ -1,0 +1,9 @@
+-- `host::calls::pw_empty` meets its contract. Assumes nothing.
+use Rattle.host.proofs.Called.{empty_short, empty_saved}
+use Rattle.host.proofs.calls.pw_empty.Goals as goal
+
+pub returns-then-image-lt5061 : goal.returns-then-image-lt5061
+returns-then-image-lt5061 c = empty_short c.args.image.now c.if-image-lt5061.true
+
+pub returns : goal.returns
+returns c = empty_saved c.args.image.now _ c.if-image-lt5061.false c.copy.ensures
