@@ -22,7 +22,7 @@ returns-in-Nothing c =
 pub returns-in-U : goal.returns-in-U
 returns-in-U c =
     let a = c.args in
-    let e = c{-After-record-}.«record».ensures.0 ∙ record_said a.index a.lsp a.number a.handed (U _ _) c.if-number-ne0.false c.in-U.is in
+    let e = c.«record».ensures.0 ∙ record_said a.index a.lsp a.number a.handed (U _ _) c.if-number-ne0.false c.in-U.is in
     (c.put-in-U.ensures.0 ∙ ap (λ (x : List ℕ). a.at + length x) e, c.put-in-U.ensures.1 ∙ ap (λ (x : List ℕ). laid a.out.now a.at x) e)
 
 pub returns-in-B : goal.returns-in-B

@@ -10,6 +10,7 @@ use Rattle.lsp.specs.Steps.{same}
 use Rattle.lsp.proofs.Same.{other_length}
 use Rattle.events.proofs.Owns.{octet_same, octet_other, same_none, same_all, none_there, not_it, it}
 use Rattle.events.proofs.own.Own.is.Goals as goal
+use Rattle.events.proofs.own.Own.is.Goals.{then-p-i, else-p-i}
 
 pub returns-then-not-self : goal.returns-then-not-self
 returns-then-not-self c = none_there c.args.self c.args.p.now (not-true _ c.if-not-self.true)
@@ -29,7 +30,13 @@ loop-i-preserved c =
     let loop = c.loop-i in
     let h : loop.i < length a.p.now = omega (arith, c.if-p-ne-LENGTH.false) in
     let k : loop.i < length a.self.octets = omega (arith, size) in
-    (⊎_elim (λ w. w.1 ∙ sym (octet_other a.p.now a.self.octets loop.i h k w.0.taken)) (λ w. w.1 ∙ loop.invariant.0 ∙ sym (octet_same a.p.now a.self.octets loop.i h k w.0.left)) c.if-p-i.branch, omega arith)
+    (
+      elim c.if-p-i.branch [
+        then-p-i w ↦ w.same-is ∙ sym (octet_other a.p.now a.self.octets loop.i h k w.if-p-i.true)
+        | else-p-i w ↦ w.same-is ∙ loop.invariant.0 ∙ sym (octet_same a.p.now a.self.octets loop.i h k w.if-p-i.false)
+      ],
+      omega arith,
+    )
 
 pub returns : goal.returns
 returns c =
