@@ -1,5 +1,4 @@
 -- `octets::copy` meets its contract: of the first i octets `from`'s, of the rest `to`'s. Assumes nothing.
--- n is the shorter length
 use mathlib.Core.Path.{◌≡◌}
 use mathlib.Core.List.{List, ◌++◌}
 use Prim.Native.Nat.{ℕ, ◌+◌, ◌-◌, ◌≤◌}

@@ -10,5 +10,3 @@ invariant-loop-i l = (l.i ≤ length l.s) × (l.x < 256 ^ l.i) × (number_from l
 
 abbrev pub decreases-loop-i : goal.decreases-loop-i
 decreases-loop-i l = length l.s - l.i
-
--- eight octets fit a u64: one more does, after at most seven

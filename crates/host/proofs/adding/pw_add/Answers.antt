@@ -21,13 +21,13 @@ returns-then-number-ne0 c = add_ends c.args.image.now c.args.kind c.args.ttsi.no
 pub returns-then-not-is_kind : goal.returns-then-not-is_kind
 returns-then-not-is_kind c =
     let opens : Open c.args.image.now = open_is c.args.image.now (sym c.opened-number.ensures ∙ c.if-number-ne0.false) in
-    let octets : Octets c.args.image.now = λ i. omega (arith, c.slice_known-1.given i) in
+    let octets : Octets c.args.image.now = λ i. search rules in
     bad_kind c.args.image.now c.args.kind c.args.ttsi.now c.args.dl opens octets (sym c.is_kind.ensures ∙ c.if-not-is_kind.true)
 
 pub returns-then-not-is_ttsi : goal.returns-then-not-is_ttsi
 returns-then-not-is_ttsi c =
     let opens : Open c.args.image.now = open_is c.args.image.now (sym c.opened-number.ensures ∙ c.if-number-ne0.false) in
-    let octets : Octets c.args.image.now = λ i. omega (arith, c.slice_known-1.given i) in
+    let octets : Octets c.args.image.now = λ i. search rules in
     bad_ttsi c.args.image.now c.args.kind c.args.ttsi.now c.args.dl opens octets (sym c.is_ttsi.ensures ∙ c.if-not-is_ttsi.true)
 
 pub bounds-image-4 : goal.bounds-image-4
@@ -58,7 +58,7 @@ expected_in-requires c =
 pub returns-then-expected_in : goal.returns-then-expected_in
 returns-then-expected_in c =
     let opens : Open c.args.image.now = open_is c.args.image.now (sym c.opened-number.ensures ∙ c.if-number-ne0.false) in
-    let octets : Octets c.args.image.now = λ i. omega (arith, c.slice_known-1.given i) in
+    let octets : Octets c.args.image.now = λ i. search rules in
     let kind-holds : is_kind c.args.kind ≡ true = sym c.is_kind.ensures ∙ c.if-not-is_kind.false in
     let ttsi-holds : is_ttsi c.args.ttsi.now ≡ true = sym c.is_ttsi.ensures ∙ c.if-not-is_ttsi.false in
     expected c.args.image.now c.args.kind c.args.ttsi.now c.args.dl opens octets kind-holds ttsi-holds _ c.expected_in.ensures c.if-expected_in.true
@@ -66,7 +66,7 @@ returns-then-expected_in c =
 pub returns-then-n-ge64 : goal.returns-then-n-ge64
 returns-then-n-ge64 c =
     let opens : Open c.args.image.now = open_is c.args.image.now (sym c.opened-number.ensures ∙ c.if-number-ne0.false) in
-    let octets : Octets c.args.image.now = λ i. omega (arith, c.slice_known-1.given i) in
+    let octets : Octets c.args.image.now = λ i. search rules in
     let kind-holds : is_kind c.args.kind ≡ true = sym c.is_kind.ensures ∙ c.if-not-is_kind.false in
     let ttsi-holds : is_ttsi c.args.ttsi.now ≡ true = sym c.is_ttsi.ensures ∙ c.if-not-is_ttsi.false in
     full c.args.image.now c.args.kind c.args.ttsi.now c.args.dl opens octets kind-holds ttsi-holds _ c.expected_in.ensures c.if-expected_in.false c.if-n-ge64.true
@@ -93,7 +93,7 @@ bounds-image-4-2 c =
 pub returns : goal.returns
 returns c =
     let opens : Open c.args.image.now = open_is c.args.image.now (sym c.opened-number.ensures ∙ c.if-number-ne0.false) in
-    let octets : Octets c.args.image.now = λ i. omega (arith, c.slice_known-1.given i) in
+    let octets : Octets c.args.image.now = λ i. search rules in
     let kind-holds : is_kind c.args.kind ≡ true = sym c.is_kind.ensures ∙ c.if-not-is_kind.false in
     let ttsi-holds : is_ttsi c.args.ttsi.now ≡ true = sym c.is_ttsi.ensures ∙ c.if-not-is_ttsi.false in
     added c.args.image.now c.args.kind c.args.ttsi.now c.args.dl opens octets kind-holds ttsi-holds _ c.expected_in.ensures c.if-expected_in.false c.if-n-ge64.false

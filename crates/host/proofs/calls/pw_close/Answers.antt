@@ -1,4 +1,5 @@
 -- `host::calls::pw_close` meets its contract. Assumes nothing.
+use borrow.Author.Rules.{rules}
 use native.Mathlib.Omega.{arith}
 use Rattle.host.proofs.Called.{Found, found}
 use Rattle.host.proofs.Closes.{short_answer, close_ends, close_full, close_done}
@@ -10,7 +11,7 @@ returns-then-answer-lt27 c = short_answer c.args.image.now c.args.lsp c.args.ans
 pub returns-then-number-ne0 : goal.returns-then-number-ne0
 returns-then-number-ne0 c =
     close_ends c.args.image.now c.args.lsp c.args.answer.now c.if-answer-lt27.false _ c.find-number.ensures c.if-number-ne0.true
-    (λ i. omega (arith, c.slice_known-1.given i))
+    (λ i. search rules)
 
 pub take-l-requires : goal.take-l-requires
 take-l-requires c =
@@ -21,7 +22,7 @@ pub returns-then-c-ne0 : goal.returns-then-c-ne0
 returns-then-c-ne0 c =
     let there : Found c.args.image.now c.args.lsp = found c.args.image.now c.args.lsp _ c.find-number.ensures c.if-number-ne0.false in
     close_full c.args.image.now c.args.lsp c.args.answer.now c.if-answer-lt27.false _ there c.take-l.ensures c.close-c.result c.close-c.ensures
-    c.if-c-ne0.true (λ i. omega (arith, c.slice_known-1.given i))
+    c.if-c-ne0.true (λ i. search rules)
 
 pub put-requires : goal.put-requires
 put-requires c =

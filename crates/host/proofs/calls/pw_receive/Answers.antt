@@ -1,4 +1,5 @@
 -- `host::calls::pw_receive` meets its contract. Assumes nothing.
+use borrow.Author.Rules.{rules}
 use native.Mathlib.Omega.{arith}
 use Rattle.host.proofs.Called.{Found, found}
 use Rattle.host.proofs.Steps.{receive_ends, receive_done}
@@ -6,7 +7,7 @@ use Rattle.host.proofs.calls.pw_receive.Goals as goal
 
 pub returns-then-number-ne0 : goal.returns-then-number-ne0
 returns-then-number-ne0 c =
-    receive_ends c.args.image.now c.args.lsp c.args.payload.now _ c.find-number.ensures c.if-number-ne0.true (λ i. omega (arith, c.slice_known-1.given i))
+    receive_ends c.args.image.now c.args.lsp c.args.payload.now _ c.find-number.ensures c.if-number-ne0.true (λ i. search rules)
 
 pub take-l-requires : goal.take-l-requires
 take-l-requires c =

@@ -1,4 +1,5 @@
 -- `host::calls::pw_server` meets its contract. Assumes nothing.
+use borrow.Author.Rules.{rules}
 use native.Mathlib.Omega.{arith}
 use Rattle.host.proofs.Called.{Found, found}
 use Rattle.host.proofs.Steps.{server_ends, server_twelve, server_done}
@@ -6,12 +7,12 @@ use Rattle.host.proofs.calls.pw_server.Goals as goal
 
 pub returns-then-number-ne0 : goal.returns-then-number-ne0
 returns-then-number-ne0 c =
-    server_ends c.args.image.now c.args.lsp c.args.on _ c.find-number.ensures c.if-number-ne0.true (λ i. omega (arith, c.slice_known-1.given i))
+    server_ends c.args.image.now c.args.lsp c.args.on _ c.find-number.ensures c.if-number-ne0.true (λ i. search rules)
 
 pub returns-then-on-gt1 : goal.returns-then-on-gt1
 returns-then-on-gt1 c =
     let there : Found c.args.image.now c.args.lsp = found c.args.image.now c.args.lsp _ c.find-number.ensures c.if-number-ne0.false in
-    server_twelve c.args.image.now c.args.lsp c.args.on there c.if-on-gt1.true (λ i. omega (arith, c.slice_known-1.given i))
+    server_twelve c.args.image.now c.args.lsp c.args.on there c.if-on-gt1.true (λ i. search rules)
 
 pub take-l-requires : goal.take-l-requires
 take-l-requires c =

@@ -1,4 +1,5 @@
 -- `host::record::put` meets its contract. Assumes nothing.
+use borrow.Author.Rules.{rules}
 use native.Mathlib.Omega.{arith}
 use Rattle.host.proofs.InPlace.{put_in_place}
 use Rattle.image.proofs.Prefix.{begun}
@@ -18,5 +19,5 @@ slice_bounds-write-end c = omega (arith, c.requires.1, (begun c.args.image.now c
 
 pub returns : goal.returns
 returns c =
-    put_in_place c.args.image.now c.requires.0 (λ i. omega (arith, c.slice_known-1.given i)) c.args.lsp _ c.args.l _ c.requires.1
+    put_in_place c.args.image.now c.requires.0 (λ i. search rules) c.args.lsp _ c.args.l _ c.requires.1
     c.write.ensures c.write.auto.s

@@ -12,5 +12,3 @@ invariant-loop-i l = (l.i ≤ l.n) × (length l.marks ≡ 512) × Marked l.marks
 
 abbrev pub decreases-loop-i : goal.decreases-loop-i
 decreases-loop-i l = l.n - l.i
-
--- the TTSI of field l.i, where the code finds it

@@ -1,6 +1,5 @@
 -- `payload::reading::ttsi` meets its contract: what the reader answered decides which part is handed back.
 -- Assumes nothing.
--- src/reading.rt:162:8
 use native.Mathlib.Omega.{arith}
 use Rattle.payload.proofs.Answers.{accepted_long, accepted_by, refused_by, part_is, none_is}
 use Rattle.payload.proofs.reading.ttsi.Reads as reads

@@ -4,6 +4,7 @@ use mathlib.Core.Path.{ap, ◌∙◌}
 use Prim.Native.Nat.{ℕ}
 use native.Mathlib.Omega.{arith}
 use lib.ListN.{replicate, length-set}
+use borrow.Author.Rules.{rules}
 use Rattle.payload.proofs.Rows.{tail_1, tail_7, tail_rest}
 use Rattle.payload.proofs.writing.tail.Goals as goal
 
@@ -26,4 +27,4 @@ returns-in-7 c = λ t dt.
 pub returns-in_default : goal.returns-in_default
 returns-in_default c = λ t dt.
     let a = c.args in
-    tail_rest t a.rate dt a.dl a.ty c.fill.new.s (c.fill.ensures ∙ ap (λ (k : ℕ). replicate k 0) c.requires) c.in_default.in_default-own.rest.0.1 c.in_default.in_default-own.rest.1
+    tail_rest t a.rate dt a.dl a.ty c.fill.new.s (c.fill.ensures ∙ ap (λ (k : ℕ). replicate k 0) c.requires) (search rules) (search rules)

@@ -1,5 +1,4 @@
 -- `lsp::Lsp::receive` meets its contract. Assumes nothing.
--- the cases that the last arm is left with
 use mathlib.Core.List.{List, [], ◌∷◌}
 use mathlib.Core.Logic.{◌⊎◌, ⊎_elim, inl, inr}
 use mathlib.Core.Path.{◌≡◌, refl, ap}
@@ -8,17 +7,16 @@ use native.Mathlib.Omega.{arith}
 use Rattle.lsp.proofs.Receives.{as_cv, as_ffd, as_fdi, as_bdi, as_refused}
 use Rattle.payload.specs.declared.reading.Found.TheVariants.{Cv, Ffd, Fdi, Bdi, Refused}
 use Rattle.payload.specs.declared.reading.Found.{Found}
-use Rattle.payload.specs.contracts.reading.Found.{the_type}
-use denote.Enum.Declared.{tag_of}
-use types.Run.{OneOf}
 use Rattle.lsp.proofs.path.Lsp.receive.Goals as goal
 
-check : (f : Found) → OneOf (0 ∷ 1 ∷ []) (tag_of the_type f) → (f ≡ Cv) ⊎ ((k : ℕ) × (f ≡ Ffd k))
-check Cv h = inl refl
-check (Ffd k) h = inr (k, refl)
-check (Fdi dt dl) h = absurd (⊎_elim (λ (e : ◌≡◌ {A = ℕ} 2 0). omega arith) (λ (e : ◌≡◌ {A = ℕ} 2 1). omega arith) h)
-check (Bdi dt dl) h = absurd (⊎_elim (λ (e : ◌≡◌ {A = ℕ} 3 0). omega arith) (λ (e : ◌≡◌ {A = ℕ} 3 1). omega arith) h)
-check (Refused n) h = absurd (⊎_elim (λ (e : ◌≡◌ {A = ℕ} 4 0). omega arith) (λ (e : ◌≡◌ {A = ℕ} 4 1). omega arith) h)
+-- the cases that the last arm is left with
+left : (f : Found) → ((dt dl : ℕ) → f ≡ Fdi dt dl → ⊥) → ((dt dl : ℕ) → f ≡ Bdi dt dl → ⊥) → ((n : ℕ) → f ≡ Refused n → ⊥)
+    → (f ≡ Cv) ⊎ ((k : ℕ) × (f ≡ Ffd k))
+left Cv h b r = inl refl
+left (Ffd k) h b r = inr (k, refl)
+left (Fdi dt dl) h b r = absurd (h dt dl refl)
+left (Bdi dt dl) h b r = absurd (b dt dl refl)
+left (Refused n) h b r = absurd (r n refl)
 
 pub returns-in-Fdi : goal.returns-in-Fdi
 returns-in-Fdi c =
@@ -42,4 +40,4 @@ returns-in_default c =
     ⊎_elim
     (λ q. as_cv a.self a.p.now c.read-found.result c.read-found.ensures _ _ q t c.counted.ensures)
     (λ q. as_ffd a.self a.p.now c.read-found.result c.read-found.ensures q.0 _ _ q.1 t c.counted.ensures)
-    (check c.read-found.result c.in_default.in_default-own.keys4)
+    (left c.read-found.result c.in_default.not-Fdi c.in_default.not-Bdi c.in_default.not-Refused)
