@@ -75,7 +75,7 @@ impl Source {
         }
     }
 
-    // The error of a read that failed.
+    // An error where a read failed.
     pub(crate) fn result(self) -> io::Result<()> {
         match self.error {
             Some(error) => Err(error),

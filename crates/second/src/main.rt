@@ -2,7 +2,8 @@
 // the records program must print. It shares no crate with the machine, and runs none: it keeps the exact counts of every slot and finds
 // each record by looking back over them, so no mistake of a carried state can be in both.
 //
-// Where a path's kept slots are used up it prints `full` and the field's offset, and stops.
+// Where a path's kept slots are used up it prints `full` and the field's offset, and stops. A read that fails ends the input there; its
+// error ends the program once the lines are printed. A write that fails ends it at once.
 #![tactic(auto)]
 
 mod back;
