@@ -1,21 +1,23 @@
 // What is printed, and what is counted.
-use libc::STDOUT_FILENO;
+
+// The descriptor of standard output.
+const STDOUT: i32 = 1;
 
 // How often each number came.
 pub(crate) type Counts = [u32; 256];
 
 pub(crate) fn words(s: &[u8]) {
-    io::write_all(STDOUT_FILENO, s);
+    io::write_all(STDOUT, s);
 }
 
 pub(crate) fn number(n: u32) {
     words(b" ");
-    io::print_decimal(STDOUT_FILENO, n as u64);
+    io::print_decimal(STDOUT, n as u64);
 }
 
 pub(crate) fn hex(n: u32, width: usize) {
     words(b" ");
-    io::print_hex(STDOUT_FILENO, n as u64, width);
+    io::print_hex(STDOUT, n as u64, width);
 }
 
 pub(crate) fn claim(s: &[u8], n: u32) {
@@ -49,7 +51,7 @@ pub(crate) fn count(counts: &mut Counts, number: u8) {
 fn times(k: u32, n: u32) {
     number(k);
     words(b":");
-    io::print_decimal(STDOUT_FILENO, n as u64);
+    io::print_decimal(STDOUT, n as u64);
 }
 
 fn each(counts: &Counts) {

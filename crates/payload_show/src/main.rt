@@ -1,13 +1,15 @@
 // The payloads P1 to P4 of the paper, a line each: written from their fields, shown octet by octet, and read back.
 #![tactic(auto)]
 
-use libc::STDOUT_FILENO;
 use payload::{DefectType, Found, FunctionType, LENGTH, Rate};
+
+// The descriptor of standard output.
+const STDOUT: i32 = 1;
 
 const T: [u8; 20] = *b"\0\0\0\0\0\0\0\0\0\0\xff\xff\xc0\x00\x02\x01\0\0\0\x07";
 
 fn text(s: &[u8]) {
-    io::write_all(STDOUT_FILENO, s);
+    io::write_all(STDOUT, s);
 }
 
 fn wide(octet: u8) -> u64 {
@@ -17,7 +19,7 @@ fn wide(octet: u8) -> u64 {
 fn octets(s: &[u8]) {
     let mut i = 0;
     while i < s.len() {
-        io::print_hex(STDOUT_FILENO, wide(s[i]), 2);
+        io::print_hex(STDOUT, wide(s[i]), 2);
         i += 1;
     }
 }
@@ -36,24 +38,24 @@ fn show(found: Found) {
         Found::Bdi { dt, dl } => show_defect(b"BDI dt ", dt, dl),
         Found::Refused { number } => {
             text(b"refused ");
-            io::print_decimal(STDOUT_FILENO, number as u64);
+            io::print_decimal(STDOUT, number as u64);
         }
     }
 }
 
 fn show_rate(rate: u8) {
     text(b"FFD rate ");
-    io::print_decimal(STDOUT_FILENO, rate as u64);
+    io::print_decimal(STDOUT, rate as u64);
     text(b": ");
-    io::print_decimal(STDOUT_FILENO, Rate::interval(rate) as u64);
+    io::print_decimal(STDOUT, Rate::interval(rate) as u64);
     text(b" ms");
 }
 
 fn show_defect(words: &[u8], dt: u16, dl: u32) {
     text(words);
-    io::print_hex(STDOUT_FILENO, dt as u64, 4);
+    io::print_hex(STDOUT, dt as u64, 4);
     text(b" dl ");
-    io::print_hex(STDOUT_FILENO, dl as u64, 8);
+    io::print_hex(STDOUT, dl as u64, 8);
 }
 
 // A line of the table. The TTSI's column is the part that the TTSI call hands back.

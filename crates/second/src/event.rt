@@ -1,10 +1,11 @@
 // What each event does, and what is printed of it.
 use crate::back::Record;
 use crate::field::Found;
-use crate::input::{Content, Input, Piece};
+use crate::input::{Content, Input, Source};
 use crate::paths::Paths;
 use crate::slots::Counts;
 use crate::{back, field, input, line, paths, reading, slots};
+use std::io;
 
 // An answer that is no number of the paper's: there is no room for a slot, or for a count.
 const FULL: u8 = 255;
@@ -18,12 +19,11 @@ pub(crate) struct State {
     pub is_over: bool,
 }
 
-// The number of an answer, the paths after it and whether its lines were written.
+// The number of an answer and the paths after it.
 #[derive(Drop)]
 struct Answer {
     number: u8,
     paths: Paths,
-    is_written: bool,
 }
 
 fn wide(octet: u8) -> usize {
@@ -31,11 +31,7 @@ fn wide(octet: u8) -> usize {
 }
 
 fn plain(number: u8, paths: Paths) -> Answer {
-    Answer {
-        number,
-        paths,
-        is_written: true,
-    }
+    Answer { number, paths }
 }
 
 fn add(paths: Paths, content: &[u8]) -> Answer {
@@ -72,34 +68,31 @@ fn receive(paths: Paths, lsp: usize, p: &[u8], e: &mut Counts, u: &mut Counts) -
     count(paths, lsp, p, e, u)
 }
 
-fn say(record: Record, lsp: usize) -> bool {
+fn say(rt: &impl Print, record: Record, lsp: usize) -> io::Result<()> {
     match record {
-        Record::Nothing => true,
-        Record::U { from, until } => line::say_record(lsp, b'U', from, until),
-        Record::B { from, until } => line::say_record(lsp, b'B', from, until),
+        Record::Nothing => Ok(()),
+        Record::U { from, until } => line::say_record(rt, lsp, b'U', from, until),
+        Record::B { from, until } => line::say_record(rt, lsp, b'B', from, until),
     }
 }
 
 // Only a CV path has records. The last slot of a row is never closed: it is kept for the packets that come after the slots before it.
-fn close(paths: Paths, lsp: usize, e: &Counts, u: &Counts) -> Answer {
+fn close(rt: &impl Print, paths: Paths, lsp: usize, e: &Counts, u: &Counts) -> io::Result<Answer> {
     if !paths.has(lsp) {
-        return plain(1, paths);
+        return Ok(plain(1, paths));
     }
     let closed = paths.closed_of(lsp);
     if closed >= slots::ROW - 1 {
-        return plain(FULL, paths);
+        return Ok(plain(FULL, paths));
     }
     let n = closed + 1;
     let next = paths.with_closed(lsp, n);
     if paths.kind(lsp) != 0 {
-        return plain(0, next);
+        return Ok(plain(0, next));
     }
     let record = back::ended_by(slots::row(e, lsp), slots::row(u, lsp), n);
-    Answer {
-        number: 0,
-        paths: next,
-        is_written: say(record, lsp),
-    }
+    say(rt, record, lsp)?;
+    Ok(plain(0, next))
 }
 
 // No server signal goes into a record.
@@ -121,19 +114,20 @@ fn payload(content: &[u8], len: usize) -> &[u8] {
 }
 
 fn answered(
+    rt: &impl Print,
     paths: Paths,
     tag: u8,
     content: &Content,
     len: usize,
     e: &mut Counts,
     u: &mut Counts,
-) -> Answer {
+) -> io::Result<Answer> {
     let lsp = wide(reading::octet(content, 0));
     match tag {
-        field::ADD => add(paths, content),
-        field::PACKET => plain(receive(paths, lsp, payload(content, len), e, u), paths),
-        field::CLOSE => close(paths, lsp, e, u),
-        _ => server(paths, lsp),
+        field::ADD => Ok(add(paths, content)),
+        field::PACKET => Ok(plain(receive(paths, lsp, payload(content, len), e, u), paths)),
+        field::CLOSE => close(rt, paths, lsp, e, u),
+        _ => Ok(server(paths, lsp)),
     }
 }
 
@@ -152,42 +146,50 @@ impl State {
         self
     }
 
-    // After an event: a refusal is printed, and what is full or cannot be printed ends the run.
-    fn after(self, a: Answer, input: Input) -> State {
+    // After an event: a refusal is printed, and what is full ends the run.
+    fn after(self, rt: &impl Print, a: Answer, input: Input) -> io::Result<State> {
         let index = std::num::wrapping_add_u64(self.events, 1);
         let number = a.number;
         if number == FULL {
-            line::say(b"full", self.input.offset);
-            return self.over();
+            line::say(rt, b"full", self.input.offset)?;
+            return Ok(self.over());
         }
         let paths = a.paths;
-        let is_written = number == 0 || line::say_refused(index, number);
-        State {
+        if number != 0 {
+            line::say_refused(rt, index, number)?;
+        }
+        Ok(State {
             paths,
             input,
             events: index,
-            is_over: !is_written || !a.is_written,
-        }
+            is_over: false,
+        })
     }
 }
 
 // One field read, and what it says done.
-pub(crate) fn step(state: State, piece: &mut Piece, e: &mut Counts, u: &mut Counts) -> State {
+pub(crate) fn step(
+    rt: &impl Print,
+    state: State,
+    source: &mut Source,
+    e: &mut Counts,
+    u: &mut Counts,
+) -> io::Result<State> {
     let mut content = [0u8; input::MOST];
-    let f = field::read(piece, &mut content, state.input);
+    let f = field::read(source, &mut content, state.input);
     let found = f.found;
     match found {
         Found::End => {
-            line::say(b"end", state.events);
-            state.over()
+            line::say(rt, b"end", state.events)?;
+            Ok(state.over())
         }
         Found::Bad => {
-            line::say(b"bad", state.input.offset);
-            state.over()
+            line::say(rt, b"bad", state.input.offset)?;
+            Ok(state.over())
         }
         Found::Event { tag, len } => {
-            let a = answered(state.paths, tag, &content, len, e, u);
-            state.after(a, f.input)
+            let a = answered(rt, state.paths, tag, &content, len, e, u)?;
+            state.after(rt, a, f.input)
         }
     }
 }

@@ -2,7 +2,7 @@
 ghost use Rattle.std.specs.Prelude.{◌<◌};
 
 use crate::input;
-use crate::input::{Content, Input, MOST, Piece};
+use crate::input::{Content, Input, MOST, Source};
 
 pub(crate) const ADD: u8 = 0x11;
 
@@ -55,14 +55,14 @@ fn bad(input: Input) -> Field {
 }
 
 // What follows the tag.
-fn rest(piece: &mut Piece, content: &mut Content, tag: u8, input: Input) -> Field {
-    let high = input::next(piece, input);
-    let low = input::next(piece, high.input);
+fn rest(source: &mut Source, content: &mut Content, tag: u8, input: Input) -> Field {
+    let high = input::next(source, input);
+    let low = input::next(source, high.input);
     let len = wide(high.octet) * 256 + wide(low.octet);
     if !low.is_there || !is_length(tag, len) {
         return bad(low.input);
     }
-    let last = input::fill(piece, content, len, low.input);
+    let last = input::fill(source, content, len, low.input);
     if !last.is_there || !is_value(tag, last.octet) {
         return bad(last.input);
     }
@@ -74,8 +74,8 @@ fn rest(piece: &mut Piece, content: &mut Content, tag: u8, input: Input) -> Fiel
 }
 
 // The next field; its content is put into `content`.
-pub(crate) fn read(piece: &mut Piece, content: &mut Content, input: Input) -> Field {
-    let tag = input::next(piece, input);
+pub(crate) fn read(source: &mut Source, content: &mut Content, input: Input) -> Field {
+    let tag = input::next(source, input);
     let input = tag.input;
     if !tag.is_there {
         return Field {
@@ -83,5 +83,5 @@ pub(crate) fn read(piece: &mut Piece, content: &mut Content, input: Input) -> Fi
             input,
         };
     }
-    rest(piece, content, tag.octet, input)
+    rest(source, content, tag.octet, input)
 }

@@ -1,16 +1,25 @@
 // Standard input, octet by octet. It is read in pieces, and a field may lie across the ends of several.
-use libc::STDIN_FILENO;
+use std::io;
+use std::io::{ErrorKind, Read, Stdin};
 
 // Buffers are lent as arrays: their length is in the type, so no proof has to follow it.
-pub(crate) type Piece = [u8; 65536];
+type Piece = [u8; 65536];
 
 // The longest content that is not bad.
 pub(crate) const MOST: usize = 1024;
 
 pub(crate) type Content = [u8; MOST];
 
-// Of the piece `have` octets are filled and `at` are used; of the whole input `offset` octets are used.
+// Standard input, the piece of it that was read last, and the error of a read that failed.
 #[derive(Drop)]
+pub(crate) struct Source {
+    stdin: Stdin,
+    piece: Piece,
+    error: Option<io::Error>,
+}
+
+// Of the piece `have` octets are filled and `at` are used; of the whole input `offset` octets are used.
+#[derive(Clone, Copy)]
 pub(crate) struct Input {
     pub at: usize,
     pub have: usize,
@@ -35,16 +44,52 @@ pub(crate) fn start() -> Input {
     }
 }
 
+// A read that a signal interrupts is tried again.
+fn read(mut stdin: Stdin, piece: &mut Piece) -> io::Result<usize> {
+    for _ in 0..u64::MAX {
+        match stdin.read(piece) {
+            Err(error) if error.kind() == ErrorKind::Interrupted => {}
+            answer => return answer,
+        }
+    }
+    stdin.read(piece)
+}
+
+impl Source {
+    pub(crate) fn new(stdin: Stdin) -> Source {
+        Source {
+            stdin,
+            piece: [0; 65536],
+            error: None,
+        }
+    }
+
+    // How many octets a fresh piece has. One whose read failed has none, and the error is kept.
+    fn refill(&mut self) -> usize {
+        match read(self.stdin, &mut self.piece) {
+            Ok(have) => have,
+            Err(error) => {
+                self.error = Some(error);
+                0
+            }
+        }
+    }
+
+    // An error where a read failed.
+    pub(crate) fn result(self) -> io::Result<()> {
+        match self.error {
+            Some(error) => Err(error),
+            None => Ok(()),
+        }
+    }
+}
+
 // With a fresh piece where the last one is used up. A read that fails counts as the end.
-fn ready(piece: &mut Piece, input: Input) -> Input {
+fn ready(source: &mut Source, input: Input) -> Input {
     if input.at < input.have || input.has_ended {
         return input;
     }
-    let got = libc::read(STDIN_FILENO, piece);
-    if got < 0 {
-        os::fail(b"read");
-    }
-    let have = io::count(got, piece);
+    let have = source.refill();
     Input {
         at: 0,
         have,
@@ -63,13 +108,13 @@ fn after(input: Input) -> Input {
     }
 }
 
-pub(crate) fn next(piece: &mut Piece, input: Input) -> Got {
-    let now = ready(piece, input);
+pub(crate) fn next(source: &mut Source, input: Input) -> Got {
+    let now = ready(source, input);
     let at = now.at;
-    if at < now.have && at < piece.len() {
+    if at < now.have && at < source.piece.len() {
         return Got {
             is_there: true,
-            octet: piece[at],
+            octet: source.piece[at],
             input: after(now),
         };
     }
@@ -87,7 +132,7 @@ fn put(content: &mut Content, i: usize, octet: u8) {
 }
 
 // The next `many` octets, put into `content`; the answer's octet is the last of them.
-pub(crate) fn fill(piece: &mut Piece, content: &mut Content, many: usize, input: Input) -> Got {
+pub(crate) fn fill(source: &mut Source, content: &mut Content, many: usize, input: Input) -> Got {
     let mut last = Got {
         is_there: true,
         octet: 0,
@@ -95,7 +140,7 @@ pub(crate) fn fill(piece: &mut Piece, content: &mut Content, many: usize, input:
     };
     let mut i = 0;
     while i < many {
-        last = next(piece, last.input);
+        last = next(source, last.input);
         if !last.is_there {
             return last;
         }

@@ -1,5 +1,5 @@
 // A line of the output, written whole.
-use libc::STDOUT_FILENO;
+use std::io::Result;
 
 const ROOM: usize = 80;
 
@@ -56,33 +56,35 @@ impl Line {
         now
     }
 
-    // With its end, written; false where the output takes no more.
-    pub(crate) fn write(self) -> bool {
+    // With its end, written.
+    pub(crate) fn write(self, rt: &impl Print) -> Result<()> {
         let whole = self.octet(b'\n');
         let text = whole.text;
-        let is_written = io::write_all(STDOUT_FILENO, first(&text, whole.len));
-        if !is_written {
-            os::fail(b"write");
-        }
-        is_written
+        rt.write_all(first(&text, whole.len))
     }
 }
 
 // A word and a number.
-pub(crate) fn say(words: &[u8], n: u64) -> bool {
-    Line::new().words(words).octet(b' ').number(n).write()
+pub(crate) fn say(rt: &impl Print, words: &[u8], n: u64) -> Result<()> {
+    Line::new().words(words).octet(b' ').number(n).write(rt)
 }
 
-pub(crate) fn say_refused(index: u64, number: u8) -> bool {
+pub(crate) fn say_refused(rt: &impl Print, index: u64, number: u8) -> Result<()> {
     Line::new()
         .words(b"r ")
         .number(index)
         .octet(b' ')
         .number(number as u64)
-        .write()
+        .write(rt)
 }
 
-pub(crate) fn say_record(lsp: usize, letter: u8, from: usize, until: usize) -> bool {
+pub(crate) fn say_record(
+    rt: &impl Print,
+    lsp: usize,
+    letter: u8,
+    from: usize,
+    until: usize,
+) -> Result<()> {
     Line::new()
         .number(lsp as u64)
         .octet(b' ')
@@ -91,5 +93,5 @@ pub(crate) fn say_record(lsp: usize, letter: u8, from: usize, until: usize) -> b
         .number(from as u64)
         .octet(b' ')
         .number(until as u64)
-        .write()
+        .write(rt)
 }

@@ -6,7 +6,7 @@ pub(crate) const MOST: usize = 64;
 // Twenty octets a path, one path after the other.
 type Ttsis = [u8; 1280];
 
-#[derive(Drop)]
+#[derive(Clone, Copy)]
 pub(crate) struct Paths {
     pub many: usize,
     pub kinds: [u8; MOST],
