@@ -4,12 +4,11 @@ use mathlib.Core.Bool.{Bool, true, false}
 use mathlib.Core.List.{List}
 use mathlib.Core.Path.{◌≡◌, sym, ap, ◌∙◌}
 use Prim.Native.Nat.{ℕ, ◌+◌, ◌≤◌, ◌<◌}
-use lib.Dec.{eqb, leb}
+use lib.Dec.{leb}
 use lib.ListN.{length}
 use Rattle.payload.specs.Test.{pick, both}
 use Rattle.octets.specs.Parts.{number_at, octet_at}
 use Rattle.events.specs.Framing.{fits, size_in, signal_fits, frame_by, frame_of}
-use Rattle.events.specs.declared.framing.Field.TheVariants.{Cut, Bad, Whole}
 
 -- the contents of packets, and of no tag
 pub too_few : (n : ℕ) → n < 1 → false ≡ fits 0x12 n

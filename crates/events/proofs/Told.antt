@@ -8,7 +8,7 @@ use Prim.Native.Nat.{ℕ, zero, suc, ◌-◌, ◌≤◌, ◌<◌}
 use lib.Dec.{T, eqb, ltb, leb}
 use lib.ListN.{length, get_or, set, drop, replicate}
 use lib.Seq.{map-set_same}
-use Rattle.payload.specs.Test.{pick, both}
+use Rattle.payload.specs.Test.{pick}
 use Rattle.payload.specs.Reading.{Answer, read_of, accepts, ttsi_at, shown}
 use Rattle.payload.specs.Layout.{Fields, octets_of, is_type, valid}
 use Rattle.payload.specs.Writing.{fields_of, may_write, outcome}
@@ -16,7 +16,7 @@ use Rattle.payload.specs.Law.{Reads}
 use Rattle.payload.proofs.Law.{octets_read}
 use Rattle.payload.proofs.Tests.{both_left, both_right}
 use Rattle.octets.specs.Parts.{octet_at}
-use Rattle.window.specs.Steady.{is_steady, moved_on}
+use Rattle.window.specs.Steady.{moved_on}
 use Rattle.window.proofs.Steady.{steady}
 use Rattle.window.specs.View.{turned_of}
 use Rattle.window.specs.declared.state.Record.{Record}
@@ -31,7 +31,7 @@ use Rattle.lsp.proofs.Same.{same_equal, same_self}
 use Rattle.lsp.specs.declared.path.Lsp.{Lsp}
 use Rattle.table.specs.Steps.{present, nowhere, path_at, put, receive_of, close_of, server_of, receive_by, close_by, server_by}
 use Rattle.table.specs.declared.paths.Table.{Table}
-use Rattle.events.specs.Event.{Told, tag_in, lsp_in, add_told, packet_told, close_told, server_told, told_by, told_of}
+use Rattle.events.specs.Event.{Told, tag_in, lsp_in, add_told, told_by, told_of}
 use Rattle.events.specs.Own.{written_own, own_of, is_own}
 use Rattle.events.specs.Paths.{step_by, step_of, quiet, moved, way_by, way_of}
 use Rattle.events.specs.declared.own.Own.{Own}

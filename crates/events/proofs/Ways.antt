@@ -1,19 +1,18 @@
 -- A path's step by an event's octets, and which short way serves. Assumes nothing.
 use borrow.Author.Tests.{eq-eqb, ne_eqb}
-use mathlib.Core.Bool.{Bool, true, false}
+use mathlib.Core.Bool.{Bool, false}
 use mathlib.Core.List.{List}
-use mathlib.Core.Path.{◌≡◌, refl, sym, ap, ◌∙◌}
+use mathlib.Core.Path.{◌≡◌, sym}
 use Prim.Native.Nat.{ℕ, ◌-◌}
 use lib.Dec.{eqb}
 use lib.ListN.{length, take, drop, length-drop}
 use lib.Seq.{take_all}
 use native.Mathlib.Omega.{arith}
-use Rattle.payload.specs.Test.{both}
 use Rattle.octets.specs.Parts.{octet_at}
 use Rattle.window.specs.Steady.{is_steady}
 use Rattle.lsp.specs.declared.path.Lsp.{Lsp}
 use Rattle.events.specs.Own.{is_own}
-use Rattle.events.specs.Paths.{received, closed, signalled, step_by, step_of, quiet, way_by, way_of}
+use Rattle.events.specs.Paths.{step_by, step_of, quiet, way_by, way_of}
 use Rattle.events.specs.declared.own.Own.{Own}
 
 module _ (l : Lsp) (f : List ℕ) where

@@ -12,7 +12,7 @@ use Rattle.events.specs.Printed.{ran_of, begin, printed_from, printed}
 use Rattle.events.specs.declared.framing.Field.{Field}
 use Rattle.events.specs.declared.framing.Field.TheVariants as field
 use Rattle.events.specs.declared.reckoning.Reckoning.{Reckoning}
-use Rattle.events.specs.declared.reckoning.Rest.TheVariants.{Cut, Bad}
+use Rattle.events.specs.declared.reckoning.Rest.TheVariants.{Bad}
 
 -- ---- pieces
 

@@ -6,11 +6,9 @@ use Prim.Native.Nat.{ℕ, ◌+◌, ◌-◌, ◌^◌, ◌≤◌, ◌<◌}
 use native.Mathlib.Omega.{arith}
 use lib.Dec.{eqb, leb}
 use lib.ListN.{length, get_or}
-use lib.Seq.{drop-cons, get_or-take}
+use lib.Seq.{get_or-take}
 use borrow.Author.Tests.{eqb-true, eq-eqb, leb-true, leb-false}
 use Rattle.payload.specs.Law.{Octets}
-use Rattle.payload.specs.Test.{pick}
-use Rattle.payload.specs.Rates.{life_of}
 use Rattle.payload.proofs.Rows.{ttsi_long}
 use Rattle.payload.proofs.RateTables.{life_most}
 use Rattle.octets.specs.Number.{octets, number_of}
@@ -20,13 +18,12 @@ use Rattle.octets.proofs.Parts.{joined_parts, parts_joined, length-joined, lengt
 use Rattle.window.specs.View.{code_of, unavailable_of}
 use Rattle.window.specs.declared.state.Availability.{Availability}
 use Rattle.window.specs.declared.state.Availability.TheVariants.{Available, Unavailable}
-use Rattle.window.specs.declared.state.State.{State}
 use Rattle.lsp.specs.Sound.{Sound, SoundFdi, sound}
 use Rattle.lsp.specs.declared.path.Fdi.{Fdi}
 use Rattle.lsp.specs.declared.path.Lsp.{Lsp}
 use Rattle.lsp.proofs.Answers.{Each, each, every}
 use Rattle.lsp.proofs.Soundness.{sound_tested}
-use Rattle.field.specs.Field.{server_of, parts_of, field_of, defect_of, availability_of, state_in, fdi_in, path_in, path_of, is_plain_code, is_plain_availability, field_tests, is_field}
+use Rattle.field.specs.Field.{server_of, parts_of, field_of, defect_of, availability_of, path_in, path_of, is_plain_code, is_plain_availability, field_tests, is_field}
 use Rattle.field.specs.Law.{Typed, FieldLaw}
 use Rattle.field.proofs.Codes.{defect_forth, code_lt, code_back, availability_forth, availability_plain, availability_back, server_forth, server_plain, server_back, defect_type_lt}
 

@@ -1,14 +1,14 @@
 -- What the add of C answers and leaves, over plain values. Assumes nothing.
 use mathlib.Core.Path.{◌≡◌, refl, sym, ap, ap₂, ◌∙◌}
 use mathlib.Core.Bool.{Bool, true, false}
-use mathlib.Core.List.{List, [], ◌∷◌, ◌++◌, append_assoc, append-nil}
-use Prim.Native.Nat.{ℕ, zero, suc, ◌+◌, ◌*◌, ◌-◌, ◌≤◌, ◌<◌}
+use mathlib.Core.List.{List, ◌∷◌, ◌++◌, append_assoc}
+use Prim.Native.Nat.{ℕ, suc, ◌+◌, ◌*◌, ◌-◌, ◌≤◌, ◌<◌}
 use native.Mathlib.Nat.{sub-zero}
 use native.Mathlib.Numerals.{add-one}
 use native.Mathlib.Omega.{arith}
 use lib.Dec.{leb}
-use lib.ListN.{length, get_or, take, drop, set, length-take, length-drop, take-append-drop}
-use lib.Seq.{drop-drop, take-suc-set, set_at, drop-cons, take_at, drop_at, take_all, length-take-le}
+use lib.ListN.{length, take, drop, set, length-take, length-drop}
+use lib.Seq.{drop-drop, take-suc-set, take_at}
 use borrow.Author.Tests.{le-leb, lt-leb, leb-true}
 use borrow.Rule.Slice.PartMut.{mid_of, put_mid}
 use Rattle.payload.specs.Law.{Octets}
@@ -25,16 +25,16 @@ use Rattle.table.specs.Steps as table
 use Rattle.table.specs.Steps.{present, expected_in, any_expects, add_by, not_added}
 use Rattle.table.specs.declared.paths.Table.{Table}
 use Rattle.table.specs.declared.add.Added.{Added}
-use Rattle.image.specs.Image.{fields_of, octets_of, image_length, length_of, save_by, is_image, image_in, count_in, paths_of, table_of}
+use Rattle.image.specs.Image.{fields_of, octets_of, image_length, length_of, save_by, image_in, count_in, paths_of, table_of}
 use Rattle.image.proofs.Turns.{cell}
-use Rattle.host.specs.Calls.{table_in, saved_in, add_step, add_of, called, opened_of}
+use Rattle.host.specs.Calls.{table_in, saved_in, add_step, add_of, opened_of}
 use Rattle.image.proofs.Answers.{whole}
 use Rattle.image.proofs.Law.{all_present}
 use Rattle.image.proofs.Octets.{drop-take, ttsi_first, ttsi_read}
 use Rattle.image.proofs.Seen.{ttsi_found}
 use Rattle.image.proofs.Turns.{fields_snoc}
 use Rattle.image.proofs.Walk.{length-paths}
-use Rattle.host.proofs.Called.{Open, not_open, goes_on, refuses, fits}
+use Rattle.host.proofs.Called.{Open, not_open, goes_on, refuses}
 use Rattle.host.proofs.InPlace.{table_is, present_in, count_in_lem, lawful}
 
 -- ---- one turn of the search

@@ -1,15 +1,13 @@
 -- What a call answers by what `take` answers, over plain values. Assumes nothing.
 use mathlib.Core.Path.{◌≡◌, refl, sym, ap, ap₂, ◌∙◌}
 use mathlib.Core.Bool.{Bool, true, false}
-use mathlib.Core.List.{List, [], ◌∷◌, ◌++◌}
-use Prim.Native.Nat.{ℕ, ◌+◌, ◌≤◌, ◌<◌}
+use mathlib.Core.List.{List, [], ◌∷◌}
+use Prim.Native.Nat.{ℕ, ◌≤◌, ◌<◌}
 use native.Mathlib.Omega.{arith}
-use lib.Dec.{eqb, leb, ltb}
-use lib.ListN.{length, drop}
+use lib.Dec.{eqb, ltb}
+use lib.ListN.{length}
 use borrow.Author.Tests.{le-leb, lt-leb, lt-ltb, le-ltb, ltb-true}
 use Rattle.payload.specs.Law.{Octets}
-use Rattle.payload.specs.Test.{both}
-use Rattle.payload.proofs.Tests.{never}
 use Rattle.lsp.specs.declared.path.Lsp.{Lsp}
 use Rattle.table.specs.Steps.{empty, present, put}
 use Rattle.table.specs.declared.paths.Table.{Table}

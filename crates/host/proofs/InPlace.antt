@@ -1,17 +1,17 @@
 -- An image changed where it stands is the image of the changed table. Assumes nothing.
-use mathlib.Core.Path.{◌≡◌, refl, sym, ap, ap₂, ◌∙◌}
-use mathlib.Core.Bool.{Bool, true, false}
-use mathlib.Core.List.{List, [], ◌∷◌, ◌++◌, append_assoc, append-nil}
+use mathlib.Core.Path.{◌≡◌, refl, sym, ap, ◌∙◌}
+use mathlib.Core.Bool.{Bool, true}
+use mathlib.Core.List.{List, [], ◌∷◌, ◌++◌, append_assoc}
 use Prim.Native.Nat.{ℕ, zero, suc, ◌+◌, ◌*◌, ◌-◌, ◌≤◌, ◌<◌}
 use native.Mathlib.Nat.{add_assoc}
 use native.Mathlib.Omega.{arith}
 use lib.Dec.{leb}
-use lib.ListN.{length, get_or, take, drop, set, replicate, drop_of_length-le, length-take, length-drop, take-append-drop}
+use lib.ListN.{length, get_or, take, drop, set, replicate, length-take, length-drop, take-append-drop}
 use lib.Seq.{take-append-le, drop-append-le, take-append-add, drop-append-add, drop_at, drop-drop, take-set-lt, length-take-le, get_or-take, take-take}
 use borrow.Author.Tests.{le-leb}
 use borrow.Rule.Slice.PartMut.{mid_of, put_mid}
 use Rattle.payload.specs.Law.{Octets}
-use Rattle.octets.specs.Parts.{laid, octet_at}
+use Rattle.octets.specs.Parts.{laid}
 use Rattle.octets.proofs.Parts.{put_laid, part_octets}
 use Rattle.lsp.specs.declared.path.Lsp.{Lsp}
 use Rattle.field.specs.Field.{field_of, path_of, write_of}
@@ -19,7 +19,7 @@ use Rattle.field.proofs.Law.{field_law}
 use Rattle.table.specs.Steps.{nowhere, blank, present, path_at, put}
 use Rattle.table.specs.Lawful.{Lawful}
 use Rattle.table.specs.declared.paths.Table.{Table}
-use Rattle.image.specs.Image.{fields_of, octets_of, image_length, length_of, save_by, is_image, image_in, count_in, paths_of, table_of, restored, restore_of}
+use Rattle.image.specs.Image.{fields_of, octets_of, image_length, length_of, save_by, is_image, image_in, count_in, paths_of, table_of, restored}
 use Rattle.image.specs.Law.{Typed}
 use Rattle.image.specs.declared.restoring.Restored.{Restored}
 use Rattle.image.proofs.Law.{image_law, all_present}

@@ -1,27 +1,21 @@
 -- Each call's step on the table that an image holds, where there is no such path and where there is. Assumes nothing.
-use mathlib.Core.Path.{◌≡◌, refl, sym, ap, ap₂, ◌∙◌}
+use mathlib.Core.Path.{◌≡◌, sym, ap, ap₂, ◌∙◌}
 use mathlib.Core.Bool.{Bool, true, false}
-use mathlib.Core.List.{List, ◌++◌}
+use mathlib.Core.List.{List}
 use Prim.Native.Nat.{ℕ, ◌≤◌, ◌<◌}
 use native.Mathlib.Omega.{arith}
-use lib.Dec.{eqb, leb, ltb}
-use lib.ListN.{length, drop}
-use borrow.Author.Tests.{le-leb, lt-leb, eq-eqb, ne_eqb}
+use lib.Dec.{eqb, ltb}
 use Rattle.payload.specs.Law.{Octets}
-use Rattle.payload.specs.Test.{both}
 use Rattle.payload.specs.Reading.{Answer, answer_of}
 use Rattle.payload.specs.declared.reading.Found as reader
-use Rattle.octets.specs.Parts.{joined}
 use Rattle.lsp.specs.Steps as path
 use Rattle.lsp.specs.declared.path.Lsp.{Lsp}
 use Rattle.lsp.specs.declared.path.Signalled as signalled
-use Rattle.lsp.specs.declared.close.Closed as closed
 use Rattle.lsp.proofs.Parts.{no_signal, signal}
 use Rattle.table.proofs.Laws.{refused}
 use Rattle.table.specs.Steps as table
 use Rattle.table.specs.Steps.{present, path_at, put}
 use Rattle.table.specs.declared.paths.Table.{Table}
-use Rattle.table.specs.declared.calls.Closed.{Closed}
 use Rattle.host.specs.Calls.{table_in, saved_in, found_of, receive_step, receive_of, server_step, server_on}
 use Rattle.host.proofs.Called.{Found, none, refuses, stepped}
 

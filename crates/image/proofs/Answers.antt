@@ -1,12 +1,12 @@
 -- What the code's calls on parts answer, over plain values. Assumes nothing.
-use mathlib.Core.Path.{◌≡◌, refl, sym, ap, ap₂, ◌∙◌}
+use mathlib.Core.Path.{◌≡◌, refl, ap, ap₂, ◌∙◌}
 use mathlib.Core.Bool.{Bool, true, false}
-use mathlib.Core.List.{List, [], ◌∷◌, ◌++◌, append-nil}
+use mathlib.Core.List.{List, ◌++◌, append-nil}
 use Prim.Native.Nat.{ℕ, ◌+◌, ◌*◌, ◌-◌, ◌%◌, ◌≤◌, ◌<◌}
 use native.Mathlib.Nat.{zero-add}
 use native.Mathlib.Omega.{arith}
-use lib.Dec.{leb, ltb}
-use lib.ListN.{length, take, drop, length-take, length-drop, drop_of_length-le}
+use lib.Dec.{ltb}
+use lib.ListN.{length, drop, length-take, length-drop, drop_of_length-le}
 use lib.Seq.{take_all}
 use borrow.Author.Tests.{le-leb, lt-leb, ltb-true}
 use borrow.Rule.Slice.PartMut.{mid_of}

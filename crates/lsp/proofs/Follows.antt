@@ -9,15 +9,13 @@ use lib.Dec.{eqb, leb}
 use borrow.Author.Tests.{le-leb, lt-leb, leb-true, leb-false}
 use Rattle.payload.specs.Test.{pick}
 use Rattle.payload.specs.Rates.{life_of}
-use Rattle.payload.specs.Reading.{Answer, refusal, read_of, accepts, ttsi_at}
+use Rattle.payload.specs.Reading.{Answer, read_of, accepts, ttsi_at}
 use Rattle.payload.proofs.Tests.{never}
 use Rattle.rules.specs.Machine as machine
 use Rattle.rules.specs.Machine.{expected, unexpected}
-use Rattle.rules.specs.History as rules
 use Rattle.rules.specs.History.{state_of}
 use Rattle.rules.proofs.Theorem.{state_right, state_right_ffd}
-use Rattle.window.specs.View.{view, state_out, defect_out, record_out}
-use Rattle.window.specs.declared.state.State.{State}
+use Rattle.window.specs.View.{view, state_out, record_out}
 use Rattle.window.specs.declared.state.Defect.TheVariants.{Clear}
 use Rattle.window.specs.declared.state.Record.TheVariants.{Nothing}
 use Rattle.window.proofs.Views.{view_out}
@@ -25,7 +23,6 @@ use Rattle.lsp.specs.Steps.{same, gone, is_cv, counts, counted_by, counted_of, t
 use Rattle.lsp.specs.History.{Added, History, arrives, told, reported, signalled, closes, counted, slots, server_in, Last, none, heard, last_fdi, end, fdi_after}
 use Rattle.lsp.specs.History.{counted_as, heard_by, received_by, received, limit, closed, signalled_as}
 use Rattle.lsp.specs.Theorem.{added}
-use Rattle.lsp.specs.declared.path.Fdi.{Fdi}
 use Rattle.lsp.specs.declared.path.Lsp.{Lsp}
 use Rattle.lsp.specs.declared.path.Signalled.{Signalled}
 use Rattle.lsp.specs.declared.close.Closed.{Closed}

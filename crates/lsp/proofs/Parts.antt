@@ -1,12 +1,11 @@
 -- The parts of each step, over plain values. Assumes nothing.
-use mathlib.Core.Path.{◌≡◌, refl, ap, ap₂, sym, ◌∙◌}
-use mathlib.Core.Bool.{Bool, true, false}
-use mathlib.Core.List.{List, [], ◌∷◌}
+use mathlib.Core.Path.{◌≡◌, ap, ap₂, sym, ◌∙◌}
+use mathlib.Core.Bool.{true, false}
+use mathlib.Core.List.{List}
 use Prim.Native.Nat.{ℕ, ◌+◌, ◌-◌, ◌≤◌, ◌<◌}
-use native.Mathlib.Omega.{arith}
-use lib.Dec.{eqb, leb}
-use lib.ListN.{length, replicate}
-use borrow.Author.Tests.{eq-eqb, ne_eqb, le-leb, lt-leb}
+use lib.Dec.{eqb}
+use lib.ListN.{replicate}
+use borrow.Author.Tests.{ne_eqb, le-leb, lt-leb}
 use Rattle.payload.specs.Rates.{life_of}
 use Rattle.payload.specs.Writing.{write_of}
 use Rattle.rules.specs.Machine.{fresh}
@@ -19,7 +18,6 @@ use Rattle.window.specs.declared.close.Turned.{Turned}
 use Rattle.lsp.specs.Steps.{new_of, with_server, server_of, told_of, faded_of, locv_out_of, out_is, out_by, out_of, is_cv, after_close, closed_of, close_of, write_row_of}
 use Rattle.lsp.specs.declared.path.Fdi.{Fdi}
 use Rattle.lsp.specs.declared.path.Lsp.{Lsp}
-use Rattle.lsp.specs.declared.path.Signalled.{Signalled}
 use Rattle.lsp.specs.declared.close.Out.{Out}
 use Rattle.lsp.specs.declared.close.Closed.{Closed}
 

@@ -1,13 +1,12 @@
 -- A refused step leaves the path as it was, and no step changes the expected TTSI. Assumes nothing.
-use mathlib.Core.Path.{◌≡◌, refl, ap, sym, ◌∙◌}
+use mathlib.Core.Path.{◌≡◌, refl, ap}
 use mathlib.Core.Bool.{Bool, true, false}
 use mathlib.Core.List.{List}
-use Prim.Native.Nat.{ℕ, ◌≤◌, ◌<◌}
-use native.Mathlib.Omega.{arith}
+use Prim.Native.Nat.{ℕ}
 use lib.Dec.{eqb, leb}
 use borrow.Author.Tests.{eqb-true, leb-true, leb-false}
 use Rattle.payload.specs.Reading.{Answer, read_of, accepts, ttsi_at}
-use Rattle.lsp.specs.Steps.{same, counted_by, counted_of, taken_by, receive_by, receive_of, server_of, close_of}
+use Rattle.lsp.specs.Steps.{same, counted_by, taken_by, receive_by, receive_of, server_of, close_of}
 use Rattle.lsp.specs.History.{limit}
 use Rattle.lsp.specs.declared.path.Lsp.{Lsp}
 use Rattle.lsp.specs.declared.close.Closed.{Closed}

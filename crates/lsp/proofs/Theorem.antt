@@ -15,12 +15,12 @@ use Rattle.payload.specs.Reading.{Answer, refusal, shown, fields_at, read_of, ac
 use Rattle.payload.proofs.Opened.{passed, shown_by}
 use Rattle.rules.specs.Rules.{Record, HandsOut}
 use Rattle.rules.specs.Machine as machine
-use Rattle.rules.specs.History.{state_of, count_in, counts_of}
+use Rattle.rules.specs.History.{state_of, count_in}
 use Rattle.rules.specs.Claim.{Right, RightFfd, RightDefect}
 use Rattle.rules.proofs.Theorem.{state_right, state_right_ffd, answer_right}
-use Rattle.window.specs.View.{view, defect_in, defect_out, record_out}
+use Rattle.window.specs.View.{view, defect_in, record_out}
 use Rattle.window.specs.declared.state.Record.TheVariants.{Nothing}
-use Rattle.window.proofs.Views.{in_out, record_out_one}
+use Rattle.window.proofs.Views.{record_out_one}
 use Rattle.lsp.specs.Steps.{same, counted_by, counted_of, taken_of, receive_by, receive_of, out_by, close_of}
 use Rattle.lsp.specs.History.{Added, History, counted, slots, server_in, last_fdi, fdi_after, closes, limit}
 use Rattle.lsp.specs.Theorem.{Step, receive, close, server, after, history_of, added, exact, Path, Closing, AtLimit, strange, answer_to, Theorem}

@@ -7,11 +7,11 @@ use native.Mathlib.Nat.{add-zero}
 use mathlib.Core.Bool.{Bool, true, false}
 use lib.Dec.{leb}
 use lib.ListN.{length, get_or, take, drop, length-append, length-take, length-drop, take-append-drop, drop_of_length-le, get_or-eq_default}
-use lib.Seq.{take_at, drop_at, drop-drop, take_all, drop-append-add, get_or-take, get_or-drop}
+use lib.Seq.{take_at, drop_at, drop-drop, drop-append-add, get_or-take, get_or-drop}
 use borrow.Author.Tests.{leb-true, leb-false}
 use borrow.Rule.Slice.PartMut.{mid_of, put_mid}
 use Rattle.payload.specs.Law.{Octets}
-use Rattle.octets.specs.Number.{octets, number_of, read_of, over}
+use Rattle.octets.specs.Number.{octets, read_of, over}
 use Rattle.octets.specs.Parts.{joined, part, number_at, octet_at, cut_from, total, laid}
 use Rattle.octets.proofs.Laws.{length-octets, octets_number, number_lt, over_same, read_few}
 

@@ -8,11 +8,11 @@ use mathlib.Core.List.{List, ◌++◌, append_assoc}
 use Prim.Native.Nat.{ℕ, ◌+◌, ◌*◌, ◌/◌, ◌%◌, ◌≤◌}
 use native.Mathlib.Nat.{div-add-mod'}
 use native.Mathlib.Omega.{arith}
-use lib.Dec.{T, eqb, leb}
+use lib.Dec.{T, leb}
 use lib.ListN.{length, get_or, take, drop, length-append}
 use lib.Seq.{take_at, drop_at, drop-drop, get_or-drop}
 use borrow.Author.Tests.{eq-eqb, leb-true}
-use Rattle.payload.specs.Test.{both, all_zero}
+use Rattle.payload.specs.Test.{all_zero}
 use Rattle.payload.specs.Layout.{Fields, cv, ffd, fdi, bdi, head_of, ttsi_of, tail_of, body_of, bip, run, octets_of, is_type, is_ttsi, valid, Valid}
 use Rattle.payload.specs.Writing.{fields_of, may_write, outcome, write_of}
 use Rattle.payload.specs.Reading.{Answer, shown, fields_at, word_at, long_at, clear, bip_right, read_of, accepts, ttsi_at}

@@ -3,7 +3,7 @@
 use mathlib.Core.Path.{◌≡◌, refl, ap, sym, ◌∙◌}
 use mathlib.Core.List.{List}
 use Prim.Native.Nat.{ℕ}
-use Rattle.payload.specs.Reading.{Answer, answer_of, read_of}
+use Rattle.payload.specs.Reading.{Answer, answer_of}
 use Rattle.payload.specs.Promises.{One, OneOutcome, Named}
 use Rattle.payload.specs.declared.reading.Found.{Found}
 use Rattle.payload.specs.declared.reading.Found.TheVariants.{Cv, Ffd, Fdi, Bdi, Refused}

@@ -2,23 +2,20 @@
 use mathlib.Core.Path.{◌≡◌, refl, ap, sym, subst, ◌∙◌}
 use mathlib.Core.Bool.{Bool, true, false}
 use mathlib.Core.List.{List, [], ◌∷◌}
-use Prim.Native.Nat.{ℕ, zero, suc, ◌+◌, ◌≤◌, ◌<◌}
+use Prim.Native.Nat.{ℕ, zero, suc, ◌+◌, ◌<◌}
 use native.Mathlib.Omega.{arith}
 use lib.Dec.{eqb, leb, ltb}
-use lib.ListN.{length, get_or, set, take, replicate, length-set, get_or-replicate}
+use lib.ListN.{length, get_or, set, take, length-set, get_or-replicate}
 use lib.Seq.{get_or-set_same, get_or-set_other, length-take-le, get_or-take}
 use borrow.Author.Tests.{eqb-true, eqb-false, ltb-true, ltb-false, lt-ltb, leb-true, leb-false}
 use Rattle.payload.specs.Test.{pick, both, either}
 use Rattle.payload.specs.Rates.{is_kind}
 use Rattle.payload.specs.Layout.{is_ttsi}
-use Rattle.payload.specs.Reading.{Answer}
 use Rattle.payload.proofs.Tests.{never, both_left, both_right}
 use Rattle.lsp.specs.Steps as path
 use Rattle.lsp.specs.Steps.{new_of, same}
 use Rattle.lsp.specs.Sound.{Sound}
 use Rattle.lsp.specs.declared.path.Lsp.{Lsp}
-use Rattle.lsp.specs.declared.path.Signalled as path-signalled
-use Rattle.lsp.specs.declared.close.Closed as path-closed
 use Rattle.lsp.proofs.Same.{same_self}
 use Rattle.lsp.proofs.SoundKept.{sound_kept}
 use Rattle.lsp.proofs.Refused.{receive_ttsi, close_ttsi, server_ttsi}

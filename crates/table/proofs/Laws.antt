@@ -1,14 +1,14 @@
 -- Paths are kept apart, and a refusal changes nothing (`specs/Laws.antt`). Assumes nothing.
-use mathlib.Core.Path.{◌≡◌, refl, ap, sym, ◌∙◌}
+use mathlib.Core.Path.{◌≡◌, refl, ap, ◌∙◌}
 use mathlib.Core.Bool.{Bool, true, false}
 use mathlib.Core.List.{List}
 use Prim.Native.Nat.{ℕ, ◌<◌}
 use native.Mathlib.Omega.{arith}
 use lib.Dec.{leb, ltb}
-use lib.ListN.{get_or, set}
+use lib.ListN.{set}
 use lib.Seq.{get_or-set_other, set-get_or}
 use borrow.Author.Tests.{lt-ltb, leb-false}
-use Rattle.payload.specs.Test.{pick, both}
+use Rattle.payload.specs.Test.{both}
 use Rattle.payload.specs.Rates.{is_kind}
 use Rattle.payload.specs.Layout.{is_ttsi}
 use Rattle.payload.specs.Reading.{Answer}

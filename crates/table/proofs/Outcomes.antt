@@ -1,10 +1,9 @@
 -- Each call's outcome where the path is there and where it isn't, and each of adding's. Assumes nothing.
 use mathlib.Core.Path.{◌≡◌, refl, ap, sym, ◌∙◌}
 use mathlib.Core.Bool.{Bool, true, false}
-use mathlib.Core.List.{List, [], ◌∷◌}
-use Prim.Native.Nat.{ℕ, ◌+◌, ◌≤◌, ◌<◌}
+use mathlib.Core.List.{List}
+use Prim.Native.Nat.{ℕ, ◌≤◌, ◌<◌}
 use lib.Dec.{ltb, leb}
-use lib.ListN.{set}
 use borrow.Author.Tests.{le-leb, lt-leb}
 use Rattle.payload.specs.Test.{both}
 use Rattle.payload.specs.Rates.{is_kind}
@@ -20,7 +19,6 @@ use Rattle.lsp.specs.declared.path.Signalled as path-signalled
 use Rattle.lsp.specs.declared.close.Closed as path-closed
 use Rattle.table.specs.Steps.{present, path_at, put, any_expects, not_added, add_by, add_of, receive_by, receive_of, close_by, close_of, server_by, server_of, write_row_by, write_row_of}
 use Rattle.table.specs.declared.paths.Table.{Table}
-use Rattle.table.specs.declared.add.Added.{Added}
 
 -- ---- the calls on a path
 

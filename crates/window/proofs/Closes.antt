@@ -1,10 +1,9 @@
 -- A packet and a close, from what their parts ensure. Assumes nothing.
 use mathlib.Core.Path.{◌≡◌, refl, ap, sym, ◌∙◌}
-use mathlib.Core.Bool.{Bool, true, false, cond}
+use mathlib.Core.Bool.{Bool, true, false}
 use mathlib.Core.List.{List, [], ◌∷◌}
 use Prim.Native.Nat.{ℕ, suc, ◌+◌, ◌≤◌, ◌<◌}
 use native.Mathlib.Numerals.{add-one}
-use lib.Dec.{leb}
 use borrow.Author.Tests.{le-leb, lt-leb}
 use Rattle.rules.specs.Machine as machine
 use Rattle.rules.specs.Machine.{count_up, receive, shift, verdict, defect_after, stood_after, calm}
@@ -13,8 +12,7 @@ use Rattle.window.specs.Sums.{sums_of}
 use Rattle.window.specs.View.{defect_in, defect_out, availability_in, availability_out, record_out, view, state_out, turn_out, turn_for, packet_of, turned_of}
 use Rattle.window.specs.declared.state.Defect.{Defect}
 use Rattle.window.specs.declared.state.Availability.{Availability}
-use Rattle.window.specs.declared.state.Availability.TheVariants.{Available, Unavailable}
-use Rattle.window.specs.declared.state.Record.{Record}
+use Rattle.window.specs.declared.state.Availability.TheVariants.{Available}
 use Rattle.window.specs.declared.state.Record.TheVariants.{Nothing}
 use Rattle.window.specs.declared.state.State.{State}
 use Rattle.window.specs.declared.sums.Sums.{Sums}

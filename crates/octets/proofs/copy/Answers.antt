@@ -27,7 +27,7 @@ turn s t i h k =
 pub loop-i-init : goal.loop-i-init
 loop-i-init c = (
   elim c.if-from-n.branch [
-    then-from-n w ↦ bound _ _ _ (inl (w.if-from-n.true, w.n-is))
+    | then-from-n w ↦ bound _ _ _ (inl (w.if-from-n.true, w.n-is))
     | else-from-n w ↦ bound _ _ _ (inr (w.if-from-n.false, w.n-is))
   ],
   omega arith,

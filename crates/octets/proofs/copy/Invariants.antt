@@ -1,7 +1,7 @@
 -- `octets::copy` meets its contract: of the first i octets `from`'s, of the rest `to`'s. Assumes nothing.
 use mathlib.Core.Path.{◌≡◌}
 use mathlib.Core.List.{List, ◌++◌}
-use Prim.Native.Nat.{ℕ, ◌+◌, ◌-◌, ◌≤◌}
+use Prim.Native.Nat.{ℕ, ◌-◌, ◌≤◌}
 use lib.ListN.{length, take, drop}
 use Rattle.octets.specs.Number.{over}
 use Rattle.octets.proofs.copy.Given as goal

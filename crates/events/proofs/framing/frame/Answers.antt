@@ -1,7 +1,7 @@
 -- `events::framing::frame` meets its contract. Assumes nothing.
 use native.Mathlib.Omega.{arith}
 use mathlib.Core.Path.{◌≡◌, refl, sym, ap, ◌∙◌}
-use borrow.Author.Tests.{lt-leb, le-leb, not-false}
+use borrow.Author.Tests.{lt-leb, le-leb}
 use Prim.Native.Nat.{ℕ, ◌+◌, ◌≤◌}
 use mathlib.Core.Bool.{Bool, true}
 use lib.ListN.{get_or, length}

@@ -4,7 +4,6 @@ use mathlib.Core.Path.{◌≡◌, refl, ap, ◌∙◌}
 use native.Mathlib.Omega.{arith}
 use Prim.Native.Nat.{◌+◌}
 use lib.ListN.{length, take, length-set}
-use Rattle.events.specs.Own.{own_of}
 use Rattle.events.proofs.Owns.{owns_next, owns_all}
 use lib.ListN.{set}
 use Rattle.events.specs.declared.own.Own.{Own}

@@ -1,6 +1,5 @@
 -- `host::calls::pw_close` meets its contract. Assumes nothing.
 use borrow.Author.Rules.{rules}
-use native.Mathlib.Omega.{arith}
 use Rattle.host.proofs.Called.{Found, found}
 use Rattle.host.proofs.Closes.{short_answer, close_ends, close_full, close_done}
 use Rattle.host.proofs.calls.pw_close.Goals as goal

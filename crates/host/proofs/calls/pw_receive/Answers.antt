@@ -1,6 +1,5 @@
 -- `host::calls::pw_receive` meets its contract. Assumes nothing.
 use borrow.Author.Rules.{rules}
-use native.Mathlib.Omega.{arith}
 use Rattle.host.proofs.Called.{Found, found}
 use Rattle.host.proofs.Steps.{receive_ends, receive_done}
 use Rattle.host.proofs.calls.pw_receive.Goals as goal

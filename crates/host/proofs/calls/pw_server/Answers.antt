@@ -1,6 +1,5 @@
 -- `host::calls::pw_server` meets its contract. Assumes nothing.
 use borrow.Author.Rules.{rules}
-use native.Mathlib.Omega.{arith}
 use Rattle.host.proofs.Called.{Found, found}
 use Rattle.host.proofs.Steps.{server_ends, server_twelve, server_done}
 use Rattle.host.proofs.calls.pw_server.Goals as goal

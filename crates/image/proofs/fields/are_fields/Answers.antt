@@ -1,7 +1,5 @@
-use borrow.Author.Tests.{not-false}
 use mathlib.Core.Bool.{true}
 use mathlib.Core.List.{List}
-use mathlib.Core.Logic.{⊎_elim}
 use mathlib.Core.Path.{◌≡◌, refl, sym, ap, ◌∙◌}
 use Prim.Native.Nat.{ℕ, ◌+◌, ◌*◌, ◌-◌}
 use native.Mathlib.Omega.{arith}
@@ -45,7 +43,7 @@ loop-i-preserved c =
     let f = (rw cell at (sym c.is_field.ensures)) ∙ c.if-not-is_field.false in
     let new : absent (ttsi_at loop.i s) (ttsis_of loop.i s) ≡ true =
     elim c.if-marks-m.branch [
-      then-marks-m+else-not-is_new w ↦ sym w.is_new.ensures ∙ w.if-not-is_new.false
+      | then-marks-m+else-not-is_new w ↦ sym w.is_new.ensures ∙ w.if-not-is_new.false
       | else-marks-m w ↦ unmarked loop.marks loop.i s loop.invariant.2 (rw m at w.if-marks-m.false)
     ] in (
       omega arith,

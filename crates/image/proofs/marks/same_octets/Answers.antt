@@ -1,5 +1,4 @@
 -- `image::marks::same_octets` meets its contract: the octets behind are the same. Assumes nothing.
-use mathlib.Core.Bool.{true}
 use mathlib.Core.Path.{◌≡◌, sym}
 use Prim.Native.Nat.{◌-◌}
 use native.Mathlib.Omega.{arith}

@@ -1,6 +1,5 @@
 -- `lsp::receive::same_octets` meets its contract: the octets behind are the same. Assumes nothing.
 use borrow.Author.Rules.{rules}
-use mathlib.Core.Bool.{true}
 use mathlib.Core.Path.{◌≡◌, sym, ◌∙◌}
 use Prim.Native.Nat.{◌-◌}
 use native.Mathlib.Omega.{arith}

@@ -2,10 +2,6 @@
 -- Assumes nothing.
 use native.Mathlib.Omega.{arith}
 use Rattle.payload.proofs.Answers.{accepted_long, accepted_by, refused_by, part_is, none_is}
-use Rattle.payload.proofs.reading.ttsi.Reads as reads
-use Rattle.payload.proofs.reading.ttsi.Lts as lts
-use Rattle.payload.proofs.reading.Found.number.Reads as number-reads
-use Rattle.payload.proofs.reading.read.Reads as read-reads
 use Rattle.payload.proofs.reading.ttsi.Goals as goal
 
 pub slice_bounds-result-end : goal.slice_bounds-result-end
@@ -13,12 +9,10 @@ slice_bounds-result-end c =
     let p = c.args.p.now in
     omega (arith, accepted_long p (accepted_by p _ _ c.read.ensures c.number.ensures c.if-number-eq0.true))
 
-
 pub returns-then-number-eq0 : goal.returns-then-number-eq0
 returns-then-number-eq0 c =
     let p = c.args.p in
     part_is p.now p.ref_ptr.0 p.ref_ptr.1 (accepted_by p.now _ _ c.read.ensures c.number.ensures c.if-number-eq0.true)
-
 
 pub returns-else-number-eq0 : goal.returns-else-number-eq0
 returns-else-number-eq0 c =

@@ -1,12 +1,10 @@
 -- `events::own::Own::is` meets its contract: the first i octets are the same, or not. Assumes nothing.
 use borrow.Author.Rules.{rules}
 use borrow.Author.Tests.{not-true, not-false}
-use mathlib.Core.Logic.{⊎_elim}
 use mathlib.Core.Path.{◌≡◌, sym, ◌∙◌}
 use native.Mathlib.Omega.{arith}
 use Prim.Native.Nat.{◌<◌}
 use lib.ListN.{length}
-use Rattle.lsp.specs.Steps.{same}
 use Rattle.lsp.proofs.Same.{other_length}
 use Rattle.events.proofs.Owns.{octet_same, octet_other, same_none, same_all, none_there, not_it, it}
 use Rattle.events.proofs.own.Own.is.Goals as goal
@@ -29,10 +27,9 @@ loop-i-preserved c =
     let a = c.args in
     let loop = c.loop-i in
     let h : loop.i < length a.p.now = omega (arith, c.if-p-ne-LENGTH.false) in
-    let k : loop.i < length a.self.octets = omega (arith, size) in
-    (
+    let k : loop.i < length a.self.octets = omega (arith, size) in (
       elim c.if-p-i.branch [
-        then-p-i w ↦ w.same-is ∙ sym (octet_other a.p.now a.self.octets loop.i h k w.if-p-i.true)
+        | then-p-i w ↦ w.same-is ∙ sym (octet_other a.p.now a.self.octets loop.i h k w.if-p-i.true)
         | else-p-i w ↦ w.same-is ∙ loop.invariant.0 ∙ sym (octet_same a.p.now a.self.octets loop.i h k w.if-p-i.false)
       ],
       omega arith,

@@ -1,6 +1,6 @@
 -- `events::reckoning::Reckoning::run` meets its contract: after some events, what is left to run gives the rest. Assumes nothing.
 use borrow.Author.Rules.{rules}
-use mathlib.Core.List.{List, [], ◌∷◌}
+use mathlib.Core.List.{List, []}
 use mathlib.Core.Path.{◌≡◌, refl, sym, ap, ◌∙◌}
 use native.Mathlib.Omega.{arith}
 use Prim.Native.Nat.{ℕ, ◌+◌, ◌-◌, ◌≤◌, ◌<◌}
@@ -12,18 +12,14 @@ use Rattle.events.proofs.Runs.{none_done, goes_on, out_of_turns, no_field}
 use Rattle.events.proofs.Frames.{is_whole, add_size, signal_size}
 use Rattle.events.specs.declared.framing.Field.{Field}
 use lib.ListN.{length-take}
-use lib.ListN.{get_or, length-set}
+use lib.ListN.{length-set}
 use lib.Seq.{get_or-take}
-use mathlib.Core.Logic.{◌⊎◌, inl, inr, ⊎_elim}
-use denote.Enum.Declared.{tag_of}
-use Rattle.events.specs.contracts.framing.Field.{the_type}
-use types.Run.{OneOf}
+use mathlib.Core.Logic.{◌⊎◌, inl, inr}
 use Rattle.octets.specs.Parts.{octet_at}
 use Rattle.window.specs.declared.state.Record.TheVariants.{Nothing}
 use Rattle.table.specs.Steps.{present, path_at}
-use Rattle.events.specs.Own.{own_of}
 use Rattle.events.specs.Paths.{step_of, way_of}
-use Rattle.events.specs.Printed.{rest_of, ran_is}
+use Rattle.events.specs.Printed.{ran_is}
 use Rattle.events.specs.declared.own.Own.{Own}
 use Rattle.events.specs.declared.reckoning.Ran.{Ran}
 use Rattle.events.specs.declared.reckoning.Rest.{Rest}

@@ -1,9 +1,8 @@
 -- `lsp::Lsp::receive` meets its contract. Assumes nothing.
-use mathlib.Core.List.{List, [], ◌∷◌}
+use mathlib.Core.List.{List}
 use mathlib.Core.Logic.{◌⊎◌, ⊎_elim, inl, inr}
 use mathlib.Core.Path.{◌≡◌, refl, ap}
 use Prim.Native.Nat.{ℕ}
-use native.Mathlib.Omega.{arith}
 use Rattle.lsp.proofs.Receives.{as_cv, as_ffd, as_fdi, as_bdi, as_refused}
 use Rattle.payload.specs.declared.reading.Found.TheVariants.{Cv, Ffd, Fdi, Bdi, Refused}
 use Rattle.payload.specs.declared.reading.Found.{Found}
