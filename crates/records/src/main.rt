@@ -4,7 +4,8 @@
 #![tactic(auto)]
 
 use events::{Reckoning, Rest};
-use libc::{STDIN_FILENO, STDOUT_FILENO};
+use std::io;
+use std::io::{ErrorKind, Read, Stdin};
 
 // Room for thousands of fields, and for the lines of some 8,000 events: where a read brings more, it takes another run.
 const INPUT: usize = 131072;
@@ -12,28 +13,26 @@ const INPUT: usize = 131072;
 const OUTPUT: usize = 524288;
 
 // Where the program is, how many octets it holds back, and whether more are wanted.
-#[derive(Drop)]
+#[derive(Clone, Copy)]
 struct Held {
     pub reckoning: Reckoning,
     pub octets: usize,
     pub more: bool,
 }
 
-// Lines written; whether somebody reads them.
-fn say(out: &[u8], n: usize) -> bool {
+// Lines written; whether they were. An error where nobody reads them.
+fn say(rt: &impl Print, out: &[u8], n: usize) -> io::Result<bool> {
     if out.len() < n {
-        return false;
+        return Ok(false);
     }
-    let said = io::write_all(STDOUT_FILENO, &out[..n]);
-    if !said {
-        os::fail(b"records: standard output");
-    }
-    said
+    rt.write_all(&out[..n])?;
+    Ok(true)
 }
 
-fn last(r: Reckoning, whole: bool, out: &mut [u8]) {
+fn last(rt: &impl Print, r: Reckoning, whole: bool, out: &mut [u8]) -> io::Result<()> {
     let n = r.finish(whole, out);
-    say(out, n);
+    say(rt, out, n)?;
+    Ok(())
 }
 
 fn over(r: Reckoning) -> Held {
@@ -60,73 +59,90 @@ fn front(buf: &mut [u8], from: usize, upto: usize) -> usize {
 }
 
 // The events that are whole in the octets at hand, run by run; what is left waits at the front for more.
-fn taken(r: Reckoning, buf: &mut [u8], have: usize, out: &mut [u8]) -> Held {
+fn taken(
+    rt: &impl Print,
+    r: Reckoning,
+    buf: &mut [u8],
+    have: usize,
+    out: &mut [u8],
+) -> io::Result<Held> {
     let mut next = r;
     let mut at = 0;
     let mut turns = u64::MAX;
     while 0 < turns {
         turns -= 1;
         if buf.len() < have {
-            return over(next);
+            return Ok(over(next));
         }
         let ran = next.run(&buf[at..have], out);
         next = ran.next;
         let text = ran.text;
-        if !say(out, text) {
-            return over(next);
+        if !say(rt, out, text)? {
+            return Ok(over(next));
         }
         let octets = ran.taken;
         if have - at < octets {
-            return over(next);
+            return Ok(over(next));
         }
         at += octets;
         let rest = ran.rest;
         match rest {
             Rest::Going => {}
             Rest::Cut => {
-                return Held {
+                return Ok(Held {
                     reckoning: next,
                     octets: front(buf, at, have),
                     more: true,
-                };
+                });
             }
             Rest::Bad => {
-                last(next, false, out);
-                return over(next);
+                last(rt, next, false, out)?;
+                return Ok(over(next));
             }
         }
     }
-    over(next)
+    Ok(over(next))
 }
 
-// One read, and the events that it brings. At the end of the input, or where it can't be read, the last line.
-fn fed(held: Held, buf: &mut [u8], out: &mut [u8]) -> Held {
+// One read, and the events that it brings. At the end of the input, or where it can't be read, the last line; then the error of that read.
+fn fed(
+    rt: &impl Print,
+    stdin: &mut Stdin,
+    held: Held,
+    buf: &mut [u8],
+    out: &mut [u8],
+) -> io::Result<Held> {
     let r = held.reckoning;
     let n = held.octets;
     // Never: less than one field is held back, at most 1,026 octets.
     if buf.len() <= n {
-        return over(r);
+        return Ok(over(r));
     }
-    let got = libc::read(STDIN_FILENO, &mut buf[n..]);
-    if got < 0 {
-        if os::errno() == libc::EINTR {
-            return held;
+    match stdin.read(&mut buf[n..]) {
+        Ok(0) => {
+            last(rt, r, n == 0, out)?;
+            Ok(over(r))
         }
-        os::fail(b"records: standard input");
+        Ok(got) => taken(rt, r, buf, n + got, out),
+        Err(error) if error.kind() == ErrorKind::Interrupted => Ok(held),
+        Err(error) => {
+            last(rt, r, n == 0, out)?;
+            Err(error)
+        }
     }
-    if got <= 0 {
-        last(r, n == 0, out);
-        return over(r);
-    }
-    let have = n + io::count(got, &buf[n..]);
-    taken(r, buf, have, out)
+}
+
+// Room for octets. A call's result has its length, and none of its octets need be reckoned to know it.
+fn zeros<const N: usize>() -> [u8; N] {
+    [0; N]
 }
 
 // A proved loop has to end, and nothing says that the input does: the turns are more than any run uses up.
-fn main() {
-    let mut input = [0u8; INPUT];
+fn main(rt: HostRuntime) -> io::Result<()> {
+    let mut stdin = rt.stdin();
+    let mut input = zeros::<INPUT>();
     let buf: &mut [u8] = &mut input;
-    let mut output = [0u8; OUTPUT];
+    let mut output = zeros::<OUTPUT>();
     let out: &mut [u8] = &mut output;
     let mut held = Held {
         reckoning: Reckoning::begin(),
@@ -136,9 +152,10 @@ fn main() {
     let mut turns = u64::MAX;
     while 0 < turns {
         if !held.more {
-            return;
+            return Ok(());
         }
-        held = fed(held, buf, out);
+        held = fed(&rt, &mut stdin, held, buf, out)?;
         turns -= 1;
     }
+    Ok(())
 }
