@@ -4,7 +4,7 @@ use crate::three::{Image, SIZE};
 use crate::{compare, text, three};
 
 // How many were accepted and how many refused, and of the accepted those that are saved again as they were.
-#[derive(Drop)]
+#[derive(Clone, Copy)]
 struct Sweep {
     accepted: u32,
     refused: u32,

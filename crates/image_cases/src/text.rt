@@ -1,14 +1,16 @@
 // What is printed, and what is counted.
-use libc::STDOUT_FILENO;
+
+// The descriptor of standard output.
+const STDOUT: i32 = 1;
 
 pub(crate) fn words(s: &[u8]) {
-    io::write_all(STDOUT_FILENO, s);
+    io::write_all(STDOUT, s);
 }
 
 pub(crate) fn item(s: &[u8], n: u64) {
     words(s);
     words(b" ");
-    io::print_decimal(STDOUT_FILENO, n);
+    io::print_decimal(STDOUT, n);
 }
 
 pub(crate) fn claim(s: &[u8], n: u64) {
@@ -20,7 +22,7 @@ pub(crate) fn claim(s: &[u8], n: u64) {
 pub(crate) fn times(k: usize, n: u32) {
     item(b"", k as u64);
     words(b":");
-    io::print_decimal(STDOUT_FILENO, n as u64);
+    io::print_decimal(STDOUT, n as u64);
 }
 
 // No count here comes near 2^32.

@@ -5,7 +5,7 @@ use lsp::Closed;
 use window::Record;
 
 // Kinds by number, since 0 where available; letter b'U', b'B' or 0 with no record.
-#[derive(Drop)]
+#[derive(Clone, Copy)]
 pub(crate) struct Seen {
     pub kind: u8,
     pub since: u64,

@@ -4,7 +4,7 @@ use crate::text::add;
 use crate::{recount, text};
 
 // Closes compared and those that differ, closes with each kind and when unavailable, records, and a checksum over these.
-#[derive(Drop)]
+#[derive(Clone, Copy)]
 pub(crate) struct Tally {
     pub closes: u32,
     pub differ: u32,

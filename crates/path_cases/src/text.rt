@@ -1,19 +1,21 @@
 // What is printed, and what is counted.
-use libc::STDOUT_FILENO;
 use window::{Availability, Defect, Record};
 
+// The descriptor of standard output.
+const STDOUT: i32 = 1;
+
 pub(crate) fn words(s: &[u8]) {
-    io::write_all(STDOUT_FILENO, s);
+    io::write_all(STDOUT, s);
 }
 
 pub(crate) fn number(n: u64) {
     words(b" ");
-    io::print_decimal(STDOUT_FILENO, n);
+    io::print_decimal(STDOUT, n);
 }
 
 pub(crate) fn hex(n: u32, width: usize) {
     words(b" ");
-    io::print_hex(STDOUT_FILENO, n as u64, width);
+    io::print_hex(STDOUT, n as u64, width);
 }
 
 pub(crate) fn claim(s: &[u8], n: u64) {

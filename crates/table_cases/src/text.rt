@@ -1,11 +1,13 @@
 // What is printed.
-use libc::STDOUT_FILENO;
+
+// The descriptor of standard output.
+const STDOUT: i32 = 1;
 
 pub(crate) fn words(s: &[u8]) {
-    io::write_all(STDOUT_FILENO, s);
+    io::write_all(STDOUT, s);
 }
 
 pub(crate) fn number(n: u8) {
     words(b" ");
-    io::print_decimal(STDOUT_FILENO, n as u64);
+    io::print_decimal(STDOUT, n as u64);
 }
