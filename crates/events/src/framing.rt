@@ -36,6 +36,9 @@ fn fits(tag: u8, n: usize) -> bool
     }
 }
 
+// A server signal that is on; the other is 0.
+const ON: u8 = 1;
+
 // The field that the octets begin with.
 pub fn frame(s: &[u8]) -> Field
     ensures { result ≡ frame_of s.now }
@@ -53,7 +56,7 @@ pub fn frame(s: &[u8]) -> Field
         return Field::Cut;
     }
     if tag == SERVER {
-        if 1 < s[4] {
+        if ON < s[4] {
             return Field::Bad;
         }
     }

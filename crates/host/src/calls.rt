@@ -4,12 +4,17 @@ ghost use Rattle.host.specs.Calls.{empty_of, receive_of, server_on, close_of};
 
 use crate::{answer, record};
 
+// Octets that a buffer for the image has, at least, and those of an answer.
+const IMAGE: usize = 5061;
+
+const ANSWER: usize = 27;
+
 // An empty table's image: 11, or 0.
 #[unsafe(no_mangle)]
 pub extern "C" fn pw_empty(image: &mut [u8]) -> u8
     ensures { (result, image.new) ≡ empty_of image.old }
 {
-    if image.len() < 5061 {
+    if image.len() < IMAGE {
         return 11;
     }
     octets::copy(&[1, 0, 2, 1, 0], image);
@@ -56,7 +61,7 @@ pub extern "C" fn pw_server(image: &mut [u8], lsp: u64, on: u8) -> u8
 pub extern "C" fn pw_close(image: &mut [u8], lsp: u64, answer: &mut [u8]) -> u8
     ensures { (result, image.new, answer.new) ≡ close_of image.old lsp answer.old }
 {
-    if answer.len() < 27 {
+    if answer.len() < ANSWER {
         return 11;
     }
     let number = record::find(image, lsp);

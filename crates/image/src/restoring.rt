@@ -1,5 +1,5 @@
 // Restoring, and whether lent octets begin with an image.
-ghost use Rattle.std.specs.Prelude.{◌≡◌};
+ghost use Rattle.std.specs.Prelude.{◌≡◌, eqb};
 ghost use Rattle.image.specs.Image.{is_image, image_in, refused, restore_of};
 
 use crate::fields::{are_fields, read_fields};
@@ -10,6 +10,16 @@ use table::Table;
 pub struct Restored {
     pub number: u8,
     pub table: Table,
+}
+
+// Paths of a table, at most.
+const MOST: usize = 64;
+
+// There is one version.
+fn is_version(octet: u8) -> bool
+    ensures { result ≡ eqb octet 1 }
+{
+    octet == 1
 }
 
 // Whether the octets up to the last field that the header counts are an image.
@@ -28,11 +38,11 @@ pub fn begins(s: &[u8]) -> bool
     if s[2] != 2 {
         return false;
     }
-    if s[3] != 1 {
+    if !is_version(s[3]) {
         return false;
     }
     let n = s[4] as usize;
-    if 64 < n {
+    if MOST < n {
         return false;
     }
     let e = 5 + 79 * n;

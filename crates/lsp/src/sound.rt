@@ -54,11 +54,14 @@ fn never_were_empty(closed: u64, row: &[u8]) -> bool
     true
 }
 
+// Counts of a row.
+const ROW: usize = 11;
+
 // Eleven counts, none past the cut and none in a slot that never was.
 pub fn row_holds(cut: u8, closed: u64, row: &[u8]) -> bool
     ensures { result ≡ is_row cut closed row.now }
 {
-    if row.len() != 11 {
+    if row.len() != ROW {
         return false;
     }
     if !counts_hold(cut, row) {

@@ -159,11 +159,14 @@ pub fn ttsi_place(p: &[u8]) -> &[u8]
     }
 }
 
+// The number of an answer that has fields.
+const READ: u8 = 0;
+
 // The caller's own twenty octets, or none where the reader refuses.
 pub fn ttsi(p: &[u8]) -> &[u8]
     ensures { (result.ref_ptr, result.now) ≡ ttsi_part p.entry.ref_ptr p.now }
 {
-    if read(p).number() == 0 {
+    if read(p).number() == READ {
         &p[TTSI..OWN]
     } else {
         &p[..0]

@@ -41,11 +41,19 @@ fn shifted(row: [u8; 11]) -> [u8; 11]
     ]
 }
 
+// The first slot whose close is judged.
+const FIRST: u64 = 3;
+
+// Of the expected packets of three slots, how many let a defect end, and how many neither begin nor end one.
+const BACK: u16 = 2;
+
+const LEFT: u16 = 1;
+
 // The defect after the close of slot n, by the sums over three slots.
 fn judged(n: u64, e: u16, u: u16, defect: Defect) -> Defect
     ensures { result ≡ defect_out (defect_after (verdict n e u) (defect_in defect)) }
 {
-    if n < 3 {
+    if n < FIRST {
         return defect;
     }
     if 1 <= u {
@@ -57,10 +65,10 @@ fn judged(n: u64, e: u16, u: u16, defect: Defect) -> Defect
     if 5 <= e {
         return Defect::Excess;
     }
-    if 2 <= e {
+    if BACK <= e {
         return Defect::Clear;
     }
-    if e == 1 {
+    if e == LEFT {
         return defect;
     }
     Defect::Locv
@@ -89,14 +97,19 @@ fn stood_after(defect: Defect, stood: u8) -> u8
     one_more(11, stood)
 }
 
+// Of the expected packets of ten slots, the least and the most that are calm.
+const LEAST: u16 = 9;
+
+const MOST: u16 = 11;
+
 // Whether the sums over ten slots let an unavailability end.
 fn is_calm(e: u16, u: u16) -> bool
     ensures { result ≡ calm 1 e u }
 {
-    if e < 9 {
+    if e < LEAST {
         return false;
     }
-    if 11 < e {
+    if MOST < e {
         return false;
     }
     u == 0
@@ -127,12 +140,15 @@ fn turn_unavailable(n: u64, since: u64, after: Defect, calm: bool) -> Turn
     }
 }
 
+// The close at which a defect that stands makes its path unavailable.
+const STOOD: u8 = 11;
+
 // An available path at the close of slot n: a defect that has stood eleven closes makes it unavailable, one that ends before is a break.
 fn turn_available(n: u64, before: Defect, stood: u8, after: Defect, stands: u8) -> Turn
     ensures { (b : Bool) → result ≡ turn_out (turn 1 n available (defect_in before) stood (defect_in after) stands b) }
 {
     if after.stands() {
-        if stands == 11 {
+        if stands == STOOD {
             return Turn {
                 availability: Availability::Unavailable { since: less(n, 12) },
                 handed: Record::Nothing,

@@ -41,16 +41,16 @@ bounds-s-4 c =
     let n = two_of_signal (get_or c.args.s.now 0 0) c.number-n.result c.if-tag-eq-SERVER.true (sym c.if-not-fits.false ∙ c.fits.ensures) in
     omega (arith, n, c.if-s-size.false)
 
-pub returns-then-s-gt1 : goal.returns-then-s-gt1
-returns-then-s-gt1 c =
+pub returns-then-s-gt-ON : goal.returns-then-s-gt-ON
+returns-then-s-gt-ON c =
     let said : c.number-n.result ≡ number_at c.args.s.now 1 2 = read_part c.args.s.now 1 2 c.if-s-lt3.false (omega arith) c.number-n.result c.number-n.ensures in
-    by c.args.s.now _ said c.if-s-lt3.false (sym c.if-not-fits.false ∙ c.fits.ensures) c.if-s-size.false (wrong_signal c.args.s.now c.if-tag-eq-SERVER.true c.if-s-gt1.true)
+    by c.args.s.now _ said c.if-s-lt3.false (sym c.if-not-fits.false ∙ c.fits.ensures) c.if-s-size.false (wrong_signal c.args.s.now c.if-tag-eq-SERVER.true c.if-s-gt-ON.true)
 
-pub returns-else-s-gt1 : goal.returns-else-s-gt1
-returns-else-s-gt1 c =
+pub returns-else-s-gt-ON : goal.returns-else-s-gt-ON
+returns-else-s-gt-ON c =
     let said : c.number-n.result ≡ number_at c.args.s.now 1 2 = read_part c.args.s.now 1 2 c.if-s-lt3.false (omega arith) c.number-n.result c.number-n.ensures in
     let sized : 3 + c.number-n.result ≡ size_in c.args.s.now = ap (λ (n : ℕ). 3 + n) said in
-    ap Whole sized ∙ by c.args.s.now _ said c.if-s-lt3.false (sym c.if-not-fits.false ∙ c.fits.ensures) c.if-s-size.false (right_signal c.args.s.now c.if-tag-eq-SERVER.true c.if-s-gt1.false)
+    ap Whole sized ∙ by c.args.s.now _ said c.if-s-lt3.false (sym c.if-not-fits.false ∙ c.fits.ensures) c.if-s-size.false (right_signal c.args.s.now c.if-tag-eq-SERVER.true c.if-s-gt-ON.false)
 
 pub returns-else-tag-eq-SERVER : goal.returns-else-tag-eq-SERVER
 returns-else-tag-eq-SERVER c =

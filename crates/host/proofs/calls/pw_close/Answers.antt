@@ -4,12 +4,12 @@ use Rattle.host.proofs.Called.{Found, found}
 use Rattle.host.proofs.Closes.{short_answer, close_ends, close_full, close_done}
 use Rattle.host.proofs.calls.pw_close.Goals as goal
 
-pub returns-then-answer-lt27 : goal.returns-then-answer-lt27
-returns-then-answer-lt27 c = short_answer c.args.image.now c.args.lsp c.args.answer.now c.if-answer-lt27.true
+pub returns-then-answer-lt-ANSWER : goal.returns-then-answer-lt-ANSWER
+returns-then-answer-lt-ANSWER c = short_answer c.args.image.now c.args.lsp c.args.answer.now c.if-answer-lt-ANSWER.true
 
 pub returns-then-number-ne0 : goal.returns-then-number-ne0
 returns-then-number-ne0 c =
-    close_ends c.args.image.now c.args.lsp c.args.answer.now c.if-answer-lt27.false _ c.find-number.ensures c.if-number-ne0.true
+    close_ends c.args.image.now c.args.lsp c.args.answer.now c.if-answer-lt-ANSWER.false _ c.find-number.ensures c.if-number-ne0.true
     (λ i. search rules)
 
 pub take-l-requires : goal.take-l-requires
@@ -20,7 +20,7 @@ take-l-requires c =
 pub returns-then-c-ne0 : goal.returns-then-c-ne0
 returns-then-c-ne0 c =
     let there : Found c.args.image.now c.args.lsp = found c.args.image.now c.args.lsp _ c.find-number.ensures c.if-number-ne0.false in
-    close_full c.args.image.now c.args.lsp c.args.answer.now c.if-answer-lt27.false _ there c.take-l.ensures c.close-c.result c.close-c.ensures
+    close_full c.args.image.now c.args.lsp c.args.answer.now c.if-answer-lt-ANSWER.false _ there c.take-l.ensures c.close-c.result c.close-c.ensures
     c.if-c-ne0.true (λ i. search rules)
 
 pub put-requires : goal.put-requires
@@ -31,5 +31,5 @@ put-requires c =
 pub returns : goal.returns
 returns c =
     let there : Found c.args.image.now c.args.lsp = found c.args.image.now c.args.lsp _ c.find-number.ensures c.if-number-ne0.false in
-    close_done c.args.image.now c.args.lsp c.args.answer.now c.if-answer-lt27.false _ there c.take-l.ensures c.close-c.result c.close-c.ensures
+    close_done c.args.image.now c.args.lsp c.args.answer.now c.if-answer-lt-ANSWER.false _ there c.take-l.ensures c.close-c.result c.close-c.ensures
     c.if-c-ne0.false _ _ c.put.ensures c.write.ensures
