@@ -6,7 +6,7 @@ use crate::fields::{are_fields, read_fields};
 use table::Table;
 
 // The number of the answer, and the table: an empty one where the number isn't 0.
-#[derive(Drop)]
+#[derive(Clone, Copy)]
 pub struct Restored {
     pub number: u8,
     pub table: Table,
