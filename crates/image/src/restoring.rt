@@ -1,5 +1,5 @@
 // Restoring, and whether lent octets begin with an image.
-ghost use Rattle.std.specs.Prelude.{◌≡◌, eqb};
+ghost use Rattle.std.specs.Prelude.{◌≡◌};
 ghost use Rattle.image.specs.Image.{is_image, image_in, refused, restore_of};
 
 use crate::fields::{are_fields, read_fields};
@@ -14,13 +14,6 @@ pub struct Restored {
 
 // Paths of a table, at most.
 const MOST: usize = 64;
-
-// There is one version.
-fn is_version(octet: u8) -> bool
-    ensures { result ≡ eqb octet 1 }
-{
-    octet == 1
-}
 
 // Whether the octets up to the last field that the header counts are an image.
 pub fn begins(s: &[u8]) -> bool
@@ -38,7 +31,9 @@ pub fn begins(s: &[u8]) -> bool
     if s[2] != 2 {
         return false;
     }
-    if !is_version(s[3]) {
+    // There is one version.
+    let other = s[3] != 1;
+    if other {
         return false;
     }
     let n = s[4] as usize;

@@ -1,6 +1,4 @@
 -- `image::restoring::begins` meets its contract. Assumes nothing.
-use borrow.Author.Tests.{eqb-true, eqb-false}
-use mathlib.Core.Path.{sym, ◌∙◌}
 use native.Mathlib.Omega.{arith}
 use Rattle.image.proofs.Prefix.{too_short, tag_fails, high_fails, low_fails, version_fails, too_many, fields_decide}
 use Rattle.image.proofs.restoring.begins.Goals as goal
@@ -17,8 +15,8 @@ returns-then-s-ne0 c = high_fails c.args.s.now c.if-s-ne0.true
 pub returns-then-s-ne2 : goal.returns-then-s-ne2
 returns-then-s-ne2 c = low_fails c.args.s.now c.if-s-ne2.true
 
-pub returns-then-not-is_version : goal.returns-then-not-is_version
-returns-then-not-is_version c = version_fails c.args.s.now (eqb-false _ 1 (sym c.is_version.ensures ∙ c.if-not-is_version.true))
+pub returns-then-other : goal.returns-then-other
+returns-then-other c = version_fails c.args.s.now c.if-other.true
 
 pub returns-then-n-gt-MOST : goal.returns-then-n-gt-MOST
 returns-then-n-gt-MOST c = too_many c.args.s.now c.if-n-gt-MOST.true
@@ -28,4 +26,4 @@ returns-then-s-e c = too_short c.args.s.now c.if-s-e.true
 
 pub returns : goal.returns
 returns c =
-    fields_decide c.args.s.now c.if-s-e.false c.if-s-ne1.false c.if-s-ne0.false c.if-s-ne2.false (eqb-true _ 1 (sym c.is_version.ensures ∙ c.if-not-is_version.false)) c.if-n-gt-MOST.false _ c.are_fields.ensures
+    fields_decide c.args.s.now c.if-s-e.false c.if-s-ne1.false c.if-s-ne0.false c.if-s-ne2.false c.if-other.false c.if-n-gt-MOST.false _ c.are_fields.ensures
