@@ -21,6 +21,7 @@ use Rattle.table.specs.Steps.{present, path_at}
 use Rattle.events.specs.Paths.{step_of, way_of}
 use Rattle.events.specs.Printed.{ran_is}
 use Rattle.events.specs.declared.own.Own.{Own}
+use Rattle.table.specs.declared.paths.Table.{Table}
 use Rattle.events.specs.declared.reckoning.Ran.{Ran}
 use Rattle.events.specs.declared.reckoning.Rest.{Rest}
 use Rattle.events.specs.declared.steps.Stepped.{Stepped}
@@ -54,6 +55,13 @@ module _ (s : List ℕ) (at : ℕ) where
 
     tag : 4 ≤ n → octet_at lent 0 ≡ octet_at (drop at s) 0
     tag h = ap (λ (f : List ℕ). octet_at f 0) is_field ∙ get_or-take n (drop at s) 0 0 (omega arith)
+
+-- a path that there is has its place
+there_by : (t : Table) (i p : ℕ) → p ≡ present t → i < p → i < present t
+there_by t i p e h = omega (arith, e, h)
+
+below_by : (t : Table) (i p : ℕ) → p ≡ present t → i < p → i < 64
+below_by t i p e h = few t i (there_by t i p e h)
 
 no_whole : (f : Field) → ((n : ℕ) → f ≡ Whole n → ⊥) → (f ≡ Cut) ⊎ (f ≡ Bad)
 no_whole Cut h = inl refl
@@ -108,7 +116,6 @@ added-a-requires c =
     let whole = follows c.args.s.now c.loop-turns.at _ c.frame-f.ensures ∙ c.in-Whole.is in
     let size = sized c.args.s.now c.loop-turns.at c.in-Whole.size c.loop-turns.invariant.within whole in
     let long = long_field c.args.s.now c.loop-turns.at c.in-Whole.size size.0 in
-    let is = is_field c.args.s.now c.loop-turns.at c.in-Whole.size in
     let tag = tag c.args.s.now c.loop-turns.at c.in-Whole.size size.1 in
     omega (arith, long, add_size (drop c.loop-turns.at c.args.s.now) c.in-Whole.size whole (sym tag ∙ c.if-field-eq-ADD.true))
 
@@ -132,16 +139,10 @@ loop-turns-preserved-then-present-i c =
     (told_absent j.t f c.if-field-eq-ADD.false (omega (arith, c.if-present-i.true, c.present.ensures))) j.invariant.places j.invariant.owned c.more-events.ensures c.more-offset.ensures c.say-text-then-present-i.ensures.0 c.say-text-then-present-i.ensures.1
 
 pub bounds-t-i : goal.bounds-t-i
-bounds-t-i c =
-    let there : octet_at (lent c.args.s.now c.loop-turns.at c.in-Whole.size) 3 < present c.loop-turns.t = omega (arith, c.if-present-i.false, c.present.ensures) in
-    let below : octet_at (lent c.args.s.now c.loop-turns.at c.in-Whole.size) 3 < 64 = few c.loop-turns.t (octet_at (lent c.args.s.now c.loop-turns.at c.in-Whole.size) 3) there in
-    below
+bounds-t-i c = below_by c.loop-turns.t _ _ c.present.ensures c.if-present-i.false
 
 pub bounds-owns-i : goal.bounds-owns-i
-bounds-owns-i c =
-    let there : octet_at (lent c.args.s.now c.loop-turns.at c.in-Whole.size) 3 < present c.loop-turns.t = omega (arith, c.if-present-i.false, c.present.ensures) in
-    let below : octet_at (lent c.args.s.now c.loop-turns.at c.in-Whole.size) 3 < 64 = few c.loop-turns.t (octet_at (lent c.args.s.now c.loop-turns.at c.in-Whole.size) 3) there in
-    omega (arith, below)
+bounds-owns-i c = omega (arith, below_by c.loop-turns.t _ _ c.present.ensures c.if-present-i.false)
 
 pub way_of-requires : goal.way_of-requires
 way_of-requires c =
@@ -151,16 +152,10 @@ way_of-requires c =
     omega (arith, long, size.1)
 
 pub bounds-t-i-in-Counts : goal.bounds-t-i-in-Counts
-bounds-t-i-in-Counts c =
-    let there : octet_at (lent c.args.s.now c.loop-turns.at c.in-Whole.size) 3 < present c.loop-turns.t = omega (arith, c.if-present-i.false, c.present.ensures) in
-    let below : octet_at (lent c.args.s.now c.loop-turns.at c.in-Whole.size) 3 < 64 = few c.loop-turns.t (octet_at (lent c.args.s.now c.loop-turns.at c.in-Whole.size) 3) there in
-    below
+bounds-t-i-in-Counts c = below_by c.loop-turns.t _ _ c.present.ensures c.if-present-i.false
 
 pub bounds-t-i-in-Counts-2 : goal.bounds-t-i-in-Counts-2
-bounds-t-i-in-Counts-2 c =
-    let there : octet_at (lent c.args.s.now c.loop-turns.at c.in-Whole.size) 3 < present c.loop-turns.t = omega (arith, c.if-present-i.false, c.present.ensures) in
-    let below : octet_at (lent c.args.s.now c.loop-turns.at c.in-Whole.size) 3 < 64 = few c.loop-turns.t (octet_at (lent c.args.s.now c.loop-turns.at c.in-Whole.size) 3) there in
-    below
+bounds-t-i-in-Counts-2 c = below_by c.loop-turns.t _ _ c.present.ensures c.if-present-i.false
 
 pub loop-turns-smaller-in-Counts : goal.loop-turns-smaller-in-Counts
 loop-turns-smaller-in-Counts c = omega (arith, c.loop-turns-test.true)
@@ -169,8 +164,8 @@ pub loop-turns-preserved-in-Counts : goal.loop-turns-preserved-in-Counts
 loop-turns-preserved-in-Counts c =
     let whole = follows c.args.s.now c.loop-turns.at _ c.frame-f.ensures ∙ c.in-Whole.is in
     let is = is_field c.args.s.now c.loop-turns.at c.in-Whole.size in
-    let there : octet_at (lent c.args.s.now c.loop-turns.at c.in-Whole.size) 3 < present c.loop-turns.t = omega (arith, c.if-present-i.false, c.present.ensures) in
-    let below : octet_at (lent c.args.s.now c.loop-turns.at c.in-Whole.size) 3 < 64 = few c.loop-turns.t (octet_at (lent c.args.s.now c.loop-turns.at c.in-Whole.size) 3) there in
+    let there = there_by c.loop-turns.t _ _ c.present.ensures c.if-present-i.false in
+    let below = few c.loop-turns.t _ there in
     let j = c.loop-turns in
     let f = lent c.args.s.now c.loop-turns.at c.in-Whole.size in
     let l = path_at j.t (octet_at f 3) in
@@ -183,16 +178,10 @@ loop-turns-preserved-in-Counts c =
     (stepped_told j.t f x q c.if-field-eq-ADD.false there) (simp length-set j.invariant.places) (still_owned j.t f x q j.owns j.invariant.owned) c.more-events.ensures c.more-offset.ensures no.0 no.1
 
 pub bounds-t-i-in-MovesOn : goal.bounds-t-i-in-MovesOn
-bounds-t-i-in-MovesOn c =
-    let there : octet_at (lent c.args.s.now c.loop-turns.at c.in-Whole.size) 3 < present c.loop-turns.t = omega (arith, c.if-present-i.false, c.present.ensures) in
-    let below : octet_at (lent c.args.s.now c.loop-turns.at c.in-Whole.size) 3 < 64 = few c.loop-turns.t (octet_at (lent c.args.s.now c.loop-turns.at c.in-Whole.size) 3) there in
-    below
+bounds-t-i-in-MovesOn c = below_by c.loop-turns.t _ _ c.present.ensures c.if-present-i.false
 
 pub bounds-t-i-in-MovesOn-2 : goal.bounds-t-i-in-MovesOn-2
-bounds-t-i-in-MovesOn-2 c =
-    let there : octet_at (lent c.args.s.now c.loop-turns.at c.in-Whole.size) 3 < present c.loop-turns.t = omega (arith, c.if-present-i.false, c.present.ensures) in
-    let below : octet_at (lent c.args.s.now c.loop-turns.at c.in-Whole.size) 3 < 64 = few c.loop-turns.t (octet_at (lent c.args.s.now c.loop-turns.at c.in-Whole.size) 3) there in
-    below
+bounds-t-i-in-MovesOn-2 c = below_by c.loop-turns.t _ _ c.present.ensures c.if-present-i.false
 
 pub loop-turns-smaller-in-MovesOn : goal.loop-turns-smaller-in-MovesOn
 loop-turns-smaller-in-MovesOn c = omega (arith, c.loop-turns-test.true)
@@ -201,7 +190,7 @@ pub loop-turns-preserved-in-MovesOn : goal.loop-turns-preserved-in-MovesOn
 loop-turns-preserved-in-MovesOn c =
     let whole = follows c.args.s.now c.loop-turns.at _ c.frame-f.ensures ∙ c.in-Whole.is in
     let is = is_field c.args.s.now c.loop-turns.at c.in-Whole.size in
-    let there : octet_at (lent c.args.s.now c.loop-turns.at c.in-Whole.size) 3 < present c.loop-turns.t = omega (arith, c.if-present-i.false, c.present.ensures) in
+    let there = there_by c.loop-turns.t _ _ c.present.ensures c.if-present-i.false in
     let j = c.loop-turns in
     let f = lent c.args.s.now c.loop-turns.at c.in-Whole.size in
     let l = path_at j.t (octet_at f 3) in
@@ -212,25 +201,18 @@ loop-turns-preserved-in-MovesOn c =
     (stepped_told j.t f x q c.if-field-eq-ADD.false there) (simp length-set j.invariant.places) (still_owned j.t f x q j.owns j.invariant.owned) c.more-events.ensures c.more-offset.ensures no.0 no.1
 
 pub bounds-t-i-in-Steps : goal.bounds-t-i-in-Steps
-bounds-t-i-in-Steps c =
-    let there : octet_at (lent c.args.s.now c.loop-turns.at c.in-Whole.size) 3 < present c.loop-turns.t = omega (arith, c.if-present-i.false, c.present.ensures) in
-    let below : octet_at (lent c.args.s.now c.loop-turns.at c.in-Whole.size) 3 < 64 = few c.loop-turns.t (octet_at (lent c.args.s.now c.loop-turns.at c.in-Whole.size) 3) there in
-    below
+bounds-t-i-in-Steps c = below_by c.loop-turns.t _ _ c.present.ensures c.if-present-i.false
 
 pub step-r-requires : goal.step-r-requires
 step-r-requires c =
     let whole = follows c.args.s.now c.loop-turns.at _ c.frame-f.ensures ∙ c.in-Whole.is in
     let size = sized c.args.s.now c.loop-turns.at c.in-Whole.size c.loop-turns.invariant.within whole in
     let long = long_field c.args.s.now c.loop-turns.at c.in-Whole.size size.0 in
-    let is = is_field c.args.s.now c.loop-turns.at c.in-Whole.size in
     let tag = tag c.args.s.now c.loop-turns.at c.in-Whole.size size.1 in
     (omega (arith, long, size.1), λ a b. omega (arith, long, signal_size (drop c.loop-turns.at c.args.s.now) c.in-Whole.size whole (λ t. c.if-field-eq-ADD.false (tag ∙ t)) (λ t. a (tag ∙ t)) (λ t. b (tag ∙ t))))
 
 pub bounds-t-i-in-Steps-2 : goal.bounds-t-i-in-Steps-2
-bounds-t-i-in-Steps-2 c =
-    let there : octet_at (lent c.args.s.now c.loop-turns.at c.in-Whole.size) 3 < present c.loop-turns.t = omega (arith, c.if-present-i.false, c.present.ensures) in
-    let below : octet_at (lent c.args.s.now c.loop-turns.at c.in-Whole.size) 3 < 64 = few c.loop-turns.t (octet_at (lent c.args.s.now c.loop-turns.at c.in-Whole.size) 3) there in
-    below
+bounds-t-i-in-Steps-2 c = below_by c.loop-turns.t _ _ c.present.ensures c.if-present-i.false
 
 pub say-text-requires-in-Steps : goal.say-text-requires-in-Steps
 say-text-requires-in-Steps c = omega (arith, c.loop-turns.invariant.room, c.loop-turns-test.true)
@@ -242,7 +224,7 @@ pub loop-turns-preserved : goal.loop-turns-preserved
 loop-turns-preserved c =
     let whole = follows c.args.s.now c.loop-turns.at _ c.frame-f.ensures ∙ c.in-Whole.is in
     let is = is_field c.args.s.now c.loop-turns.at c.in-Whole.size in
-    let there : octet_at (lent c.args.s.now c.loop-turns.at c.in-Whole.size) 3 < present c.loop-turns.t = omega (arith, c.if-present-i.false, c.present.ensures) in
+    let there = there_by c.loop-turns.t _ _ c.present.ensures c.if-present-i.false in
     let j = c.loop-turns in
     let f = lent c.args.s.now c.loop-turns.at c.in-Whole.size in
     let x = c.step-r.result in
