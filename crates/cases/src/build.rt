@@ -1,65 +1,17 @@
-// Events as octets, from a place in a buffer on; each answers the place after it.
+// Events as octets, one behind another.
 use crate::packets;
 use crate::packets::{Payload, Ttsi};
-use crate::parts::{put, puts};
+use std::alloc::{AllocError, Global};
 
-// Room for 64 paths, or for one slot with 256 packets.
-pub(crate) type Buffer = [u8; 16384];
-
-pub(crate) fn buffer() -> Buffer {
-    [0; 16384]
-}
-
-// Tag and length.
-fn head(s: &mut [u8], at: usize, tag: u8, n: usize) -> usize {
-    let high = put(s, at, tag);
-    let low = put(s, high, (n / 256 % 256) as u8);
-    put(s, low, (n % 256) as u8)
-}
-
-// An add with any kind and TTSI.
-pub(crate) fn add(s: &mut [u8], at: usize, kind: u8, t: &Ttsi) -> usize {
-    let start = head(s, at, 0x11, 25);
-    let body = put(s, start, kind);
-    let dl = puts(s, body, t);
-    puts(s, dl, b"\0\0\xfd\xe8")
-}
-
-// The n-th path.
-pub(crate) fn path(s: &mut [u8], at: usize, kind: u8, n: u8) -> usize {
-    add(s, at, kind, &packets::ttsi(n))
-}
-
-pub(crate) fn packet(s: &mut [u8], at: usize, lsp: u8, p: &[u8]) -> usize {
-    let start = head(s, at, 0x12, 1 + p.len() % 65535);
-    let body = put(s, start, lsp);
-    puts(s, body, p)
-}
-
-pub(crate) fn close(s: &mut [u8], at: usize, lsp: u8) -> usize {
-    let start = head(s, at, 0x13, 1);
-    put(s, start, lsp)
-}
-
-pub(crate) fn server(s: &mut [u8], at: usize, lsp: u8, value: u8) -> usize {
-    let start = head(s, at, 0x14, 2);
-    let body = put(s, start, lsp);
-    put(s, body, value)
-}
-
-// The same packet k times.
-pub(crate) fn packets(s: &mut [u8], at: usize, lsp: u8, p: &Payload, k: u16) -> usize {
-    let mut end = at;
-    for _ in 0..k {
-        end = packet(s, end, lsp, p);
-    }
-    end
+#[derive(Drop)]
+pub(crate) struct Events {
+    octets: Vec<u8>,
 }
 
 // How many packets of its own a slot has, by its letter: a digit says it, m is one.
 fn owns(letter: u8) -> u16 {
     match letter {
-        b'0'..=b'9' => (letter - 48) as u16,
+        b'0'..=b'9' => u16::from(letter - b'0'),
         b'm' => 1,
         _ => 0,
     }
@@ -67,28 +19,92 @@ fn owns(letter: u8) -> u16 {
 
 // And of another path: m and x are one.
 fn others(letter: u8) -> u16 {
-    match letter {
-        b'm' | b'x' => 1,
-        _ => 0,
-    }
+    u16::from(letter == b'm' || letter == b'x')
 }
 
-// A slot's packets and its close.
-pub(crate) fn slot(s: &mut [u8], at: usize, lsp: u8, kind: u8, letter: u8) -> usize {
-    let own = packets::own(lsp, kind);
-    let other = packets::own(200, kind);
-    let mid = packets(s, at, lsp, &own, owns(letter));
-    let end = packets(s, mid, lsp, &other, others(letter));
-    close(s, end, lsp)
-}
-
-// Slots, one a letter.
-pub(crate) fn slots(s: &mut [u8], at: usize, lsp: u8, kind: u8, row: &[u8]) -> usize {
-    let mut end = at;
-    let mut i = 0;
-    while i < row.len() {
-        end = slot(s, end, lsp, kind, row[i]);
-        i += 1;
+impl Events {
+    pub(crate) fn new(alloc: Global) -> Events {
+        Events {
+            octets: Vec::new(alloc),
+        }
     }
-    end
+
+    pub(crate) fn as_slice(&self) -> &[u8] {
+        self.octets.as_slice()
+    }
+
+    // The first n octets, or as many as there are.
+    pub(crate) fn first(&self, n: usize) -> &[u8] {
+        let all = self.octets.as_slice();
+        &all[..n.min(all.len())]
+    }
+
+    // Octets that need be no event.
+    pub(crate) fn raw(&mut self, octets: &[u8]) -> Result<(), AllocError> {
+        self.octets.extend_from_slice(octets)
+    }
+
+    // n octets 00.
+    pub(crate) fn zeros(&mut self, n: usize) -> Result<(), AllocError> {
+        let whole = self.octets.len().saturating_add(n);
+        self.octets.resize(whole, 0)
+    }
+
+    // Tag and length.
+    fn head(&mut self, tag: u8, n: u16) -> Result<(), AllocError> {
+        self.raw(&[tag])?;
+        self.raw(&n.to_be_bytes())
+    }
+
+    // An add with any kind and TTSI.
+    pub(crate) fn add(&mut self, kind: u8, t: &Ttsi) -> Result<(), AllocError> {
+        self.head(0x11, 25)?;
+        self.raw(&[kind])?;
+        self.raw(t)?;
+        self.raw(b"\0\0\xfd\xe8")
+    }
+
+    // The n-th path.
+    pub(crate) fn path(&mut self, kind: u8, n: u8) -> Result<(), AllocError> {
+        self.add(kind, &packets::ttsi(n))
+    }
+
+    pub(crate) fn packet(&mut self, lsp: u8, p: &[u8]) -> Result<(), AllocError> {
+        self.head(0x12, (1 + p.len() % 65535) as u16)?;
+        self.raw(&[lsp])?;
+        self.raw(p)
+    }
+
+    pub(crate) fn close(&mut self, lsp: u8) -> Result<(), AllocError> {
+        self.head(0x13, 1)?;
+        self.raw(&[lsp])
+    }
+
+    pub(crate) fn server(&mut self, lsp: u8, value: u8) -> Result<(), AllocError> {
+        self.head(0x14, 2)?;
+        self.raw(&[lsp, value])
+    }
+
+    // The same packet k times.
+    pub(crate) fn packets(&mut self, lsp: u8, p: &Payload, k: u16) -> Result<(), AllocError> {
+        for _ in 0..k {
+            self.packet(lsp, p)?;
+        }
+        Ok(())
+    }
+
+    // A slot's packets and its close.
+    pub(crate) fn slot(&mut self, lsp: u8, kind: u8, letter: u8) -> Result<(), AllocError> {
+        self.packets(lsp, &packets::own(lsp, kind), owns(letter))?;
+        self.packets(lsp, &packets::own(200, kind), others(letter))?;
+        self.close(lsp)
+    }
+
+    // Slots, one a letter.
+    pub(crate) fn slots(&mut self, lsp: u8, kind: u8, row: &[u8]) -> Result<(), AllocError> {
+        for letter in row {
+            self.slot(lsp, kind, *letter)?;
+        }
+        Ok(())
+    }
 }

@@ -7,16 +7,20 @@ mod feed;
 mod framing;
 mod packets;
 mod paper;
-mod parts;
 mod paths;
 mod refusals;
 mod rows;
 mod tally;
-mod text;
 
+use std::io;
 use tally::Tally;
 
-fn main() {
-    let t = framing::cases(paper::cases(Tally::none()));
-    paths::cases(rows::cases(refusals::cases(t))).show();
+fn main(rt: HostRuntime) -> io::Result<()> {
+    let mut t = Tally::new(&rt);
+    paper::cases(&mut t)?;
+    framing::cases(&mut t)?;
+    refusals::cases(&mut t)?;
+    rows::cases(&mut t)?;
+    paths::cases(&mut t)?;
+    t.show()
 }

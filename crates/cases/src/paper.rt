@@ -1,75 +1,66 @@
 // The paper's numbers that no proof has.
+use crate::packets;
 use crate::packets::T;
-use crate::parts::first;
 use crate::tally::Tally;
-use crate::{build, packets};
 use lsp::Lsp;
+use std::io;
 use window::Defect;
 
-fn is_excess(d: Defect) -> bool {
-    match d {
-        Defect::Clear => false,
-        Defect::Mismatch => false,
-        Defect::Mismerge => false,
-        Defect::Locv => false,
-        Defect::Excess => true,
-    }
+// 43 octets, read and as an event.
+fn short<R: Print + AllocGlobal>(t: &mut Tally<R>) -> io::Result<()> {
+    let p = packets::own(0, 0);
+    let p = packets::cut(&p);
+    let number = refusal::number(payload::read(p));
+    t.number("43 octets, read", u64::from(number), 2)?;
+    let mut s = t.events();
+    s.path(0, 0)?;
+    s.packet(0, p)?;
+    t.built("43 octets, an event", &s, "r 2 2\nend 2\n")
 }
 
-// 43 octets, read and as an event.
-fn short(t: Tally) -> Tally {
-    let p = packets::own(0, 0);
-    let mut s = build::buffer();
-    let at = build::path(&mut s, 0, 0, 0);
-    let end = build::packet(&mut s, at, 0, first(&p, 43));
-    let read = payload::read(first(&p, 43));
-    t.number(b"43 octets, read", read.number() as u64, 2)
-        .built(b"43 octets, an event", &s, end, b"r 2 2\nend 2\n")
+fn closed(l: Lsp) -> Lsp {
+    l.close().map_or(l, |(_, next)| next)
 }
 
 // A path with two slots closed and so many packets in the third.
 fn flooded(k: u16) -> Lsp {
     let p = packets::own(0, 0);
-    let mut l = Lsp::new(0, T, 0).close().next.close().next;
+    let mut l = closed(closed(Lsp::new(0, T, 0)));
     for _ in 0..k {
-        l = l.receive(&p).next;
+        l = l.receive(&p).map_or(l, |(_, next)| next);
     }
     l
 }
 
-fn excess(t: Tally) -> Tally {
-    let c = flooded(256).close();
-    let defect = c.defect;
-    t.number(
-        b"E 0,0,256, the close is Excess",
-        is_excess(defect) as u64,
-        1,
-    )
+fn excess<R: Print + AllocGlobal>(t: &mut Tally<R>) -> io::Result<()> {
+    let is_excess = flooded(256)
+        .close()
+        .is_ok_and(|(closed, _)| closed.defect == Defect::Excess);
+    t.number("E 0,0,256, the close is Excess", u64::from(is_excess), 1)
 }
 
 // The same as events. It stands, with no record, until slots 4, 5 and 6 have E 1: B 1 4, where a flood read as silence would give B 1 3.
-fn flood(t: Tally) -> Tally {
-    let p = packets::own(0, 0);
-    let mut s = build::buffer();
-    let at = build::path(&mut s, 0, 0, 0);
-    let silent = build::slots(&mut s, at, 0, 0, b"00");
-    let many = build::packets(&mut s, silent, 0, &p, 256);
-    let end = build::slots(&mut s, many, 0, 0, b"0111");
+fn flood<R: Print + AllocGlobal>(t: &mut Tally<R>) -> io::Result<()> {
+    let mut s = t.events();
+    s.path(0, 0)?;
+    s.slots(0, 0, b"00")?;
+    s.packets(0, &packets::own(0, 0), 256)?;
+    s.slots(0, 0, b"0111")?;
     t.built(
-        b"E 0,0,256,1,1,1, one record when Excess ends",
+        "E 0,0,256,1,1,1, one record when Excess ends",
         &s,
-        end,
-        b"0 B 1 4\nend 266\n",
+        "0 B 1 4\nend 266\n",
     )
 }
 
-pub(crate) fn cases(t: Tally) -> Tally {
-    let t = excess(short(t));
-    flood(t)
-        .row(
-            b"the program of 42 events",
-            b"11100000000000000000111111111",
-            b"0 U 4 20\nend 42\n",
-        )
-        .stream(b"empty input", b"", b"end 0\n")
+pub(crate) fn cases<R: Print + AllocGlobal>(t: &mut Tally<R>) -> io::Result<()> {
+    short(t)?;
+    excess(t)?;
+    flood(t)?;
+    t.row(
+        "the program of 42 events",
+        b"11100000000000000000111111111",
+        "0 U 4 20\nend 42\n",
+    )?;
+    t.stream("empty input", b"", "end 0\n")
 }

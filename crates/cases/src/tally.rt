@@ -1,79 +1,82 @@
 // The cases told and those that failed.
-use crate::parts::first;
-use crate::{build, feed, text};
+use crate::build::Events;
+use crate::feed;
+use std::io;
 
 #[derive(Drop)]
-pub(crate) struct Tally {
-    pub cases: u32,
-    pub failures: u32,
+pub(crate) struct Tally<'a, R> {
+    rt: &'a R,
+    cases: u32,
+    failures: u32,
 }
 
-// No count here comes near 2^32.
-fn add(a: u32, b: u32) -> u32 {
-    std::num::wrapping_add_u32(a, b)
-}
-
-impl Tally {
-    pub(crate) fn none() -> Tally {
+impl<'a, R: Print + AllocGlobal> Tally<'a, R> {
+    pub(crate) fn new(rt: &'a R) -> Tally<'a, R> {
         Tally {
+            rt,
             cases: 0,
             failures: 0,
         }
     }
 
+    // No events yet.
+    pub(crate) fn events(&self) -> Events {
+        Events::new(self.rt.alloc())
+    }
+
     // With a case whose name is printed.
-    fn told(self, passes: bool) -> Tally {
-        let mut t = self;
-        t.cases = add(t.cases, 1);
+    fn told(&mut self, passes: bool) -> io::Result<()> {
+        self.cases = self.cases.saturating_add(1);
         if passes {
-            text::words(b" pass\n");
+            println!(self.rt; " pass")
         } else {
-            t.failures = add(t.failures, 1);
-            text::words(b" fail\n");
+            self.failures = self.failures.saturating_add(1);
+            println!(self.rt; " fail")
         }
-        t
     }
 
     // A number that must be another.
-    pub(crate) fn number(self, name: &[u8], is: u64, must: u64) -> Tally {
-        text::words(name);
-        text::words(b":");
+    pub(crate) fn number(&mut self, name: &str, is: u64, must: u64) -> io::Result<()> {
+        print!(self.rt; "{name}:")?;
         if is != must {
-            text::number(is);
+            print!(self.rt; " {is}")?;
         }
         self.told(is == must)
     }
 
     // A stream and its text.
-    pub(crate) fn stream(self, name: &[u8], s: &[u8], text: &[u8]) -> Tally {
-        text::words(name);
-        text::words(b":");
-        let passes = feed::is_text(s, text);
+    pub(crate) fn stream(&mut self, name: &str, s: &[u8], text: &str) -> io::Result<()> {
+        print!(self.rt; "{name}:")?;
+        let passes = feed::is_text(self.rt, s, text)?;
         self.told(passes)
     }
 
-    // The first octets of a buffer, and their text.
-    pub(crate) fn built(self, name: &[u8], s: &[u8], n: usize, text: &[u8]) -> Tally {
-        self.stream(name, first(s, n), text)
+    pub(crate) fn built(&mut self, name: &str, s: &Events, text: &str) -> io::Result<()> {
+        self.stream(name, s.as_slice(), text)
     }
 
     // A path of a kind with a row of slots.
-    pub(crate) fn kind_row(self, name: &[u8], kind: u8, row: &[u8], text: &[u8]) -> Tally {
-        let mut s = build::buffer();
-        let at = build::path(&mut s, 0, kind, 0);
-        let end = build::slots(&mut s, at, 0, kind, row);
-        self.built(name, &s, end, text)
+    pub(crate) fn kind_row(
+        &mut self,
+        name: &str,
+        kind: u8,
+        row: &[u8],
+        text: &str,
+    ) -> io::Result<()> {
+        let mut s = self.events();
+        s.path(kind, 0)?;
+        s.slots(0, kind, row)?;
+        self.built(name, &s, text)
     }
 
     // A CV path with a row of slots.
-    pub(crate) fn row(self, name: &[u8], row: &[u8], text: &[u8]) -> Tally {
+    pub(crate) fn row(&mut self, name: &str, row: &[u8], text: &str) -> io::Result<()> {
         self.kind_row(name, 0, row, text)
     }
 
-    pub(crate) fn show(self) {
-        text::words(b"cases, failures:");
-        text::number(self.cases as u64);
-        text::number(self.failures as u64);
-        text::words(b"\n");
+    pub(crate) fn show(&self) -> io::Result<()> {
+        let cases = self.cases;
+        let failures = self.failures;
+        println!(self.rt; "cases, failures: {cases} {failures}")
     }
 }

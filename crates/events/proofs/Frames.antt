@@ -1,20 +1,29 @@
 -- What a whole field is, and that octets behind a field that is not cut change nothing of it. Assumes nothing.
-use mathlib.Core.Path.{◌≡◌, refl, ap, ◌∙◌}
+use mathlib.Core.Path.{◌≡◌, refl, sym, ap, ◌∙◌}
 use mathlib.Core.Bool.{Bool, true, false}
-use mathlib.Core.List.{List, ◌++◌}
-use Prim.Native.Nat.{ℕ, ◌+◌, ◌≤◌}
+use mathlib.Core.List.{List, [], ◌∷◌, ◌++◌}
+use Prim.Native.Nat.{ℕ, ◌+◌, ◌*◌, ◌≤◌}
 use native.Mathlib.Omega.{arith}
 use lib.Dec.{eqb, leb}
-use lib.ListN.{length, drop, length-append, length-drop, get_or-append}
-use lib.Seq.{take-append-le, drop-append-le}
+use lib.ListN.{length, get_or, take, drop, length-take, length-append, length-drop, get_or-append}
+use lib.Seq.{take-append-le, drop-append-le, get_or-take}
 use borrow.Author.Tests.{leb-true, le-leb, eqb-true}
 use Rattle.payload.specs.Test.{pick, both}
 use Rattle.payload.proofs.Tests.{never, both_left, both_right}
+use Rattle.octets.specs.Number.{number_from}
 use Rattle.octets.specs.Parts.{part, number_at, octet_at}
-use Rattle.events.specs.Framing.{fits, size_in, signal_fits, frame_by, frame_of}
-use Rattle.events.specs.declared.framing.Field.TheVariants.{Cut, Bad, Whole}
+use Rattle.events.specs.Framing.{fits, size_in, signal_fits, frame_by, frame_of, Enough}
+use Rattle.events.specs.Field.{Cut, Bad, Whole}
 
 -- ---- tags and lengths
+
+-- a field's length, of its two octets
+pub two_octets : (s : List ℕ) → 3 ≤ length s → number_at s 1 2 ≡ get_or s 1 0 * 256 + get_or s 2 0
+unfolding number_from
+two_octets (a ∷ b ∷ c ∷ s) h = omega arith
+two_octets (a ∷ b ∷ []) h = absurd (omega (arith, h))
+two_octets (a ∷ []) h = absurd (omega (arith, h))
+two_octets [] h = absurd (omega (arith, h))
 
 pub data Fits : ℕ → ℕ → Type 0 where
   add : Fits 0x11 25
@@ -130,9 +139,15 @@ size_by _ k (packet h l) = (λ (e : ◌≡◌ {A = ℕ} 0x12 0x11). absurd (omeg
 size_by _ _ close = (λ (e : ◌≡◌ {A = ℕ} 0x13 0x11). absurd (omega (arith, e)), λ a b c. absurd (c refl))
 size_by _ _ server = (λ (e : ◌≡◌ {A = ℕ} 0x14 0x11). absurd (omega (arith, e)), λ a b c. refl)
 
-module _ (s : List ℕ) (n : ℕ) (e : frame_of s ≡ Whole n) where
-  pub add_size : octet_at s 0 ≡ 0x11 → n ≡ 28
-  add_size t = let w = is_whole s n e in omega (arith, w.size, (size_by (octet_at s 0) (number_at s 1 2) (fits_which (octet_at s 0) (number_at s 1 2) w.fitting)).0 t)
-
-  pub signal_size : (octet_at s 0 ≡ 0x11 → ⊥) → (octet_at s 0 ≡ 0x12 → ⊥) → (octet_at s 0 ≡ 0x13 → ⊥) → n ≡ 5
-  signal_size a b c = let w = is_whole s n e in omega (arith, w.size, (size_by (octet_at s 0) (number_at s 1 2) (fits_which (octet_at s 0) (number_at s 1 2) w.fitting)).1 a b c)
+-- the octets that the code reads of a whole field
+pub enough : (s : List ℕ) (n : ℕ) → frame_of s ≡ Whole n → Enough (take n s)
+enough s n e =
+    let w = is_whole s n e in
+    let long : length (take n s) ≡ n = simp length-take (omega (arith, w.within)) in
+    let tag : octet_at (take n s) 0 ≡ octet_at s 0 = get_or-take n s 0 0 (omega (arith, w.least)) in
+    let by = size_by (octet_at s 0) (number_at s 1 2) (fits_which (octet_at s 0) (number_at s 1 2) w.fitting) in
+    record {
+      least = omega (arith, long, w.least);
+      add = λ t. omega (arith, long, w.size, by.0 (sym tag ∙ t));
+      server = λ a b c. omega (arith, long, w.size, by.1 (λ t. a (tag ∙ t)) (λ t. b (tag ∙ t)) (λ t. c (tag ∙ t)));
+    }

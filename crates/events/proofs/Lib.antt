@@ -1,9 +1,6 @@
-pub mod Tests
 pub mod Frames
 pub mod Decimal
 pub mod Built
-pub mod Owns
-pub mod Ways
 pub mod Told
 pub mod Runs
 pub mod Pieces

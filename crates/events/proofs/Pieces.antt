@@ -10,11 +10,10 @@ use Rattle.events.specs.Framing.{frame_of}
 use Rattle.events.specs.Lines.{end_line, bad_line}
 use Rattle.events.specs.Printed.{after, line_at, Run, further, ran_by, ran_of, all, printed_from, printed}
 use Rattle.events.specs.Law.{Feeding, start, piece, run, Pieces}
-use Rattle.events.specs.declared.framing.Field.{Field}
-use Rattle.events.specs.declared.framing.Field.TheVariants as field
+use Rattle.events.specs.Field.{Field}
+use Rattle.events.specs.Field as field
 use Rattle.events.specs.declared.reckoning.Reckoning.{Reckoning}
-use Rattle.events.specs.declared.reckoning.Rest.{Rest}
-use Rattle.events.specs.declared.reckoning.Rest.TheVariants.{Going, Cut, Bad}
+use Rattle.events.specs.Outcomes.{Rest, Going, Cut, Bad}
 use Rattle.events.proofs.Frames.{is_whole, whole_append, bad_append}
 
 -- ---- one field

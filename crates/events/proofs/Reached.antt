@@ -18,8 +18,8 @@ use Rattle.events.specs.Framing.{frame_of}
 use Rattle.events.specs.Event.{tag_in, told_by, told_of}
 use Rattle.events.specs.Printed.{after, ran_by, ran_of, begin}
 use Rattle.events.specs.Law.{call_by, call_of, calls_by, calls_of, Reached}
-use Rattle.events.specs.declared.framing.Field.{Field}
-use Rattle.events.specs.declared.framing.Field.TheVariants as field
+use Rattle.events.specs.Field.{Field}
+use Rattle.events.specs.Field as field
 use Rattle.events.specs.declared.reckoning.Reckoning.{Reckoning}
 
 -- ---- one call

@@ -4,10 +4,13 @@ use mathlib.Core.Bool.{Bool, true, false}
 use mathlib.Core.List.{List, [], ◌∷◌, ◌++◌, map, append-nil}
 use mathlib.Core.Path.{◌≡◌, refl, sym, ap, subst, ◌∙◌}
 use native.Mathlib.Omega.{arith}
-use Prim.Native.Nat.{ℕ, zero, suc, ◌-◌, ◌≤◌, ◌<◌}
+use Prim.Native.Nat.{ℕ, ◌+◌, ◌-◌, ◌*◌, ◌≤◌, ◌<◌}
 use lib.Dec.{T, eqb, ltb, leb}
-use lib.ListN.{length, get_or, set, drop, replicate}
+use lib.ListN.{length, get_or, set, take, drop, replicate, length-drop}
 use lib.Seq.{map-set_same}
+use Rattle.std.specs.Prelude.{Option, None, Result}
+use Rattle.refusal.specs.declared.Refusal.{Refusal}
+use Rattle.std.proofs.lemmas.List.{get_or-map, get_or-drop}
 use Rattle.payload.specs.Test.{pick}
 use Rattle.payload.specs.Reading.{Answer, read_of, accepts, ttsi_at, shown}
 use Rattle.payload.specs.Layout.{Fields, octets_of, is_type, valid}
@@ -15,34 +18,45 @@ use Rattle.payload.specs.Writing.{fields_of, may_write, outcome}
 use Rattle.payload.specs.Law.{Reads}
 use Rattle.payload.proofs.Law.{octets_read}
 use Rattle.payload.proofs.Tests.{both_left, both_right}
-use Rattle.octets.specs.Parts.{octet_at}
+use Rattle.octets.specs.Number.{number_from, number_of}
+use Rattle.octets.specs.Parts.{number_at, octet_at}
 use Rattle.window.specs.Steady.{moved_on}
 use Rattle.window.proofs.Steady.{steady}
 use Rattle.window.specs.View.{turned_of}
 use Rattle.window.specs.declared.state.Record.{Record}
-use Rattle.window.specs.declared.state.Record.TheVariants.{Nothing}
 use Rattle.lsp.specs.Steps as path
 use Rattle.lsp.specs.Steps.{same, counts, counted_by, counted_of, gone, is_cv, with_state, with_fdi, faded_of, closed_of}
 use Rattle.lsp.specs.declared.path.Fdi.{Fdi}
-use Rattle.lsp.specs.declared.path.Signalled.{Signalled}
-use Rattle.lsp.specs.declared.close.Closed.{Closed}
-use Rattle.window.specs.declared.close.Turned.{Turned}
+use Rattle.lsp.specs.Outcomes.{Signalled, Closed}
+use Rattle.window.specs.Outcomes.{Turned}
 use Rattle.lsp.proofs.Same.{same_equal, same_self}
 use Rattle.lsp.specs.declared.path.Lsp.{Lsp}
 use Rattle.table.specs.Steps.{present, nowhere, path_at, put, receive_of, close_of, server_of, receive_by, close_by, server_by}
 use Rattle.table.specs.declared.paths.Table.{Table}
 use Rattle.events.specs.Event.{Told, tag_in, lsp_in, add_told, told_by, told_of}
 use Rattle.events.specs.Own.{written_own, own_of, is_own}
-use Rattle.events.specs.Paths.{step_by, step_of, quiet, moved, way_by, way_of}
-use Rattle.events.specs.declared.own.Own.{Own}
-use Rattle.events.specs.declared.steps.Stepped.{Stepped}
-use Rattle.events.specs.declared.steps.Way.{Way}
-use Rattle.events.specs.declared.steps.Way.TheVariants.{Counts, MovesOn, Steps}
+use Rattle.events.specs.Paths.{step_by, step_of, quiet, moved}
+use Rattle.events.specs.Outcomes.{Own, Stepped, own_in, stepped_in, told_in}
 
-abbrev pub told : ℕ → Record → Table → Told
+abbrev pub told : ℕ → Option Record → Table → Told
 told n h t = record { number = n; handed = h; next = t }
 
 -- ---- an add, an LSP that isn't there, a path's step
+
+-- an add's local DL, of its four octets
+pub four_octets : (s : List ℕ) → 28 ≤ length s
+    → number_at s 24 4 ≡ get_or s 24 0 * 16777216 + get_or s 25 0 * 65536 + get_or s 26 0 * 256 + get_or s 27 0
+unfolding number_from
+four_octets s h =
+    go (drop 24 s) (simp length-drop (omega (arith, h)))
+    ∙ rw (get_or-drop 24 s 0 0, get_or-drop 24 s 1 0, get_or-drop 24 s 2 0, get_or-drop 24 s 3 0)
+  where
+    go : (x : List ℕ) → 4 ≤ length x → number_of (take 4 x) ≡ get_or x 0 0 * 16777216 + get_or x 1 0 * 65536 + get_or x 2 0 * 256 + get_or x 3 0
+    go (a ∷ b ∷ c ∷ d ∷ x) l = omega arith
+    go (a ∷ b ∷ c ∷ []) l = absurd (omega (arith, l))
+    go (a ∷ b ∷ []) l = absurd (omega (arith, l))
+    go (a ∷ []) l = absurd (omega (arith, l))
+    go [] l = absurd (omega (arith, l))
 
 module _ (t : Table) (f : List ℕ) where
   pub told_add : tag_in f ≡ 0x11 → told_of t f ≡ add_told t f
@@ -56,16 +70,16 @@ module _ (t : Table) (f : List ℕ) where
   -- each of the three calls, by whether the path is there
   from_path : Bool → Stepped → Told
   from_path true s = told s.number s.handed (put t (lsp_in f) s.next)
-  from_path false s = told 1 Nothing t
+  from_path false s = told 1 None t
 
   received : (b : Bool) → Told
-  received b = told (receive_by b t (lsp_in f) (path.receive_of (path_at t (lsp_in f)) (drop 4 f))).0.number Nothing (receive_by b t (lsp_in f) (path.receive_of (path_at t (lsp_in f)) (drop 4 f))).1
+  received b = told (receive_by b t (lsp_in f) (path.receive_of (path_at t (lsp_in f)) (drop 4 f))).0.number None (receive_by b t (lsp_in f) (path.receive_of (path_at t (lsp_in f)) (drop 4 f))).1
 
   closed : (b : Bool) → Told
   closed b = let c = close_by b t (lsp_in f) (path.close_of (path_at t (lsp_in f))) in told c.number c.handed c.next
 
   signalled : (b : Bool) → Told
-  signalled b = let s = server_by b t (lsp_in f) (path.server_of (path_at t (lsp_in f)) (octet_at f 4)) in told s.number Nothing s.next
+  signalled b = let s = server_by b t (lsp_in f) (path.server_of (path_at t (lsp_in f)) (octet_at f 4)) in told s.number None s.next
 
   there_or_not : (p c b : Bool) → ltb (lsp_in f) (present t) ≡ b → told_by false p c t f ≡ from_path b (step_by p c (path_at t (lsp_in f)) f)
   unfolding receive_of close_of server_of from_path received closed signalled
@@ -76,9 +90,9 @@ module _ (t : Table) (f : List ℕ) where
   there_or_not false false true e = ap signalled e
   there_or_not false false false e = ap signalled e
 
-  pub told_absent : (tag_in f ≡ 0x11 → ⊥) → present t ≤ lsp_in f → told_of t f ≡ told 1 Nothing t
+  pub absent : (tag_in f ≡ 0x11 → ⊥) → present t ≤ lsp_in f → told_of t f ≡ told 1 None t
   unfolding from_path
-  told_absent e h = by_path e ∙ there_or_not (eqb (tag_in f) 0x12) (eqb (tag_in f) 0x13) false (le-ltb (lsp_in f) (present t) h)
+  absent e h = by_path e ∙ there_or_not (eqb (tag_in f) 0x12) (eqb (tag_in f) 0x13) false (le-ltb (lsp_in f) (present t) h)
 
   pub told_step : (tag_in f ≡ 0x11 → ⊥) → lsp_in f < present t
       → told_of t f ≡ told (step_of (path_at t (lsp_in f)) f).number (step_of (path_at t (lsp_in f)) f).handed (put t (lsp_in f) (step_of (path_at t (lsp_in f)) f).next)
@@ -132,7 +146,7 @@ faded_none f a b d =
     ap (λ (t : Bool). pick t gone (record { left = f.left - 1; dt = f.dt; dl = f.dl })) (le-leb f.left 1 (omega (arith, a)))
     ∙ λ i. record { left = sym a i; dt = sym b i; dl = sym d i }
 
-quiet_closed : (l : Lsp) → quiet l ≡ true → ((path.close_of l).number ≡ 0) × ((path.close_of l).handed ≡ Nothing) × ((path.close_of l).next ≡ moved l)
+quiet_closed : (l : Lsp) → quiet l ≡ true → ((path.close_of l).number ≡ 0) × ((path.close_of l).handed ≡ None) × ((path.close_of l).next ≡ moved l)
 unfolding path.close_of
 quiet_closed l h =
     let a = eqb-true l.fdi.left 0 (both_left _ _ h) in
@@ -143,39 +157,21 @@ quiet_closed l h =
     let e = ap (λ (t : Turned). closed_of l t) (steady.close (is_cv l) l.state (both_right (eqb l.fdi.dl 0) _ h₂)) in
     (ap (λ (c : Closed). c.number) e, ap (λ (c : Closed). c.handed) e, ap (λ (c : Closed). c.next) e ∙ ap (λ (f : Fdi). with_fdi (with_state l (moved_on l.state)) f) (faded_none l.fdi a b d))
 
--- ---- the ways
-
--- what each way says
-ByWay : Way → Bool → Bool → Bool → Bool → Type 0
-ByWay Counts p c w q = (p ≡ true) × (w ≡ true)
-ByWay MovesOn p c w q = (p ≡ false) × (c ≡ true) × (q ≡ true)
-ByWay Steps p c w q = Unit {0}
-
-by_way : (p c w q : Bool) → ByWay (way_by p c w q) p c w q
-unfolding ByWay
-by_way true c true q = (refl, refl)
-by_way true c false q = tt
-by_way false true w true = (refl, refl, refl)
-by_way false true w false = tt
-by_way false false w q = tt
+-- ---- the short ways
 
 module _ (l : Lsp) (f : List ℕ) where
-  step_is : Bool → Bool → Stepped
-  step_is p c = step_by p c l f
+  pub counts_step : tag_in f ≡ 0x12 → is_own (own_of l) (drop 4 f) ≡ true → step_of l f ≡ record { number = 0; handed = None; next = counts l true }
+  unfolding step_of own_fields
+  counts_step e w =
+      let r = own_received l (drop 4 f) w in
+      (λ i. step_by (eq-eqb (tag_in f) 0x12 e i) (eqb (tag_in f) 0x13) l f) ∙ (λ i. record { number = (r i).0.number; handed = None; next = (r i).1 }) ∙ λ i. record { number = own_number l i; handed = None; next = counts l true }
 
-  pub counts_step : way_of l (own_of l) f ≡ Counts → step_of l f ≡ record { number = 0; handed = Nothing; next = counts l true }
-  unfolding step_of way_of ByWay own_fields
-  counts_step e =
-      let b = subst (λ (w : Way). ByWay w (eqb (tag_in f) 0x12) (eqb (tag_in f) 0x13) (is_own (own_of l) (drop 4 f)) (quiet l)) e (by_way (eqb (tag_in f) 0x12) (eqb (tag_in f) 0x13) (is_own (own_of l) (drop 4 f)) (quiet l)) in
-      let r = own_received l (drop 4 f) b.1 in
-      (λ i. step_by (b.0 i) (eqb (tag_in f) 0x13) l f) ∙ (λ i. record { number = (r i).0.number; handed = Nothing; next = (r i).1 }) ∙ λ i. record { number = own_number l i; handed = Nothing; next = counts l true }
-
-  pub moves_step : (o : Own) → way_of l o f ≡ MovesOn → step_of l f ≡ record { number = 0; handed = Nothing; next = moved l }
-  unfolding step_of way_of ByWay
-  moves_step o e =
-      let b = subst (λ (w : Way). ByWay w (eqb (tag_in f) 0x12) (eqb (tag_in f) 0x13) (is_own o (drop 4 f)) (quiet l)) e (by_way (eqb (tag_in f) 0x12) (eqb (tag_in f) 0x13) (is_own o (drop 4 f)) (quiet l)) in
-      let c = quiet_closed l b.2 in
-      (λ i. step_by (b.0 i) (b.1 i) l f) ∙ λ i. record { number = c.0 i; handed = c.1 i; next = c.2 i }
+  pub moves_step : tag_in f ≡ 0x13 → quiet l ≡ true → step_of l f ≡ record { number = 0; handed = None; next = moved l }
+  unfolding step_of
+  moves_step e q =
+      let c = quiet_closed l q in
+      let p : eqb (tag_in f) 0x12 ≡ false = rw e in
+      (λ i. step_by (p i) (eq-eqb (tag_in f) 0x13 e i) l f) ∙ λ i. record { number = c.0 i; handed = c.1 i; next = c.2 i }
 
 -- ---- no step changes what a path expects
 
@@ -211,24 +207,31 @@ kept l f = go (eqb (tag_in f) 0x12) (eqb (tag_in f) 0x13)
 
 -- ---- one path stepped, in its place
 
-get_d_map : (ls : List Lsp) (i : ℕ) (d : Lsp) (e : Own) → i < length ls → get_or (map own_of ls) i e ≡ own_of (get_or ls i d)
-get_d_map [] i d e h = absurd (omega (arith, h))
-get_d_map (l ∷ ls) zero d e h = refl
-get_d_map (l ∷ ls) (suc i) d e h = get_d_map ls i d e (omega (arith, h))
-
-pub own_at : (t : Table) (owns : List Own) (i : ℕ) (e : Own) → owns ≡ map own_of t.lsps → i < length t.lsps → get_or owns i e ≡ own_of (path_at t i)
-own_at t owns i e o h = ap (λ (x : List Own). get_or x i e) o ∙ get_d_map t.lsps i nowhere e h
-
-module _ (t : Table) (f : List ℕ) (x : Stepped) (q : x ≡ step_of (path_at t (lsp_in f)) f) where
-  pub stepped_told : (tag_in f ≡ 0x11 → ⊥) → lsp_in f < present t → told_of t f ≡ told x.number x.handed (put t (lsp_in f) x.next)
-  stepped_told e h = told_step t f e h ∙ λ i. told (sym q i).number (sym q i).handed (put t (lsp_in f) (sym q i).next)
-
-  pub still_owned : (owns : List Own) → owns ≡ map own_of t.lsps → owns ≡ map own_of (set t.lsps (lsp_in f) x.next)
-  still_owned owns o = o ∙ sym (map-set_same own_of t.lsps (lsp_in f) x.next nowhere (ap (λ (y : Stepped). own_of y.next) q ∙ kept (path_at t (lsp_in f)) f))
-
-pub few : (t : Table) (i : ℕ) → i < present t → i < 64
+few : (t : Table) (i : ℕ) → i < present t → i < 64
 few t i h = go (ltb t.count 64) refl h
   where
     go : (b : Bool) → ltb t.count 64 ≡ b → i < pick b t.count 64 → i < 64
     go true e k = omega (arith, ltb-true t.count 64 e, k)
     go false e k = k
+
+pub own_at : (t : Table) (owns : List (Option (List ℕ))) (i : ℕ) → map own_in owns ≡ map own_of t.lsps → i < present t → length owns ≡ 64 → length t.lsps ≡ 64
+    → own_in (get_or owns i None) ≡ own_of (path_at t i)
+own_at t owns i o h m n =
+    let k = few t i h in
+    let a : i < length owns = omega (arith, m, k) in
+    let b : i < length t.lsps = omega (arith, n, k) in
+    sym (get_or-map own_in owns i None (own_in None) a) ∙ ap (λ (x : List Own). get_or x i (own_in None)) o ∙ get_or-map own_of t.lsps i nowhere (own_in None) b
+
+module _ (t : Table) (f : List ℕ) (i : ℕ) (a : Result (Option Record) Refusal) (l : Lsp) (q : stepped_in a l ≡ step_of (path_at t i) f) where
+  pub stepped_told : i ≡ lsp_in f → (tag_in f ≡ 0x11 → ⊥) → i < present t → told_in a (put t i l) ≡ told_of t f
+  stepped_told e n h =
+      let s : step_of (path_at t (lsp_in f)) f ≡ stepped_in a l = ap (λ k. step_of (path_at t k) f) (sym e) ∙ sym q in
+      let w = told_step t f n (rw e at h) in
+      sym (w ∙ λ j. told (s j).number (s j).handed (put t (sym e j) (s j).next))
+
+  -- the octets of its packet were read where they lie
+  pub still_owned : (owns : List (Option (List ℕ))) → map own_in owns ≡ map own_of t.lsps
+      → map own_in (set owns i (get_or owns i None)) ≡ map own_of (set t.lsps i l)
+  still_owned owns o =
+      map-set_same own_in owns i (get_or owns i None) None refl ∙ o
+      ∙ sym (map-set_same own_of t.lsps i l nowhere (ap (λ (y : Stepped). own_of y.next) q ∙ kept (path_at t i) f))

@@ -1,10 +1,9 @@
 -- Which octets are an event: tag, length, content, as the image's fields are framed.
 -- Assumes nothing.
-use Rattle.std.specs.Prelude.{ℕ, ◌+◌, Bool, true, false, List, eqb, leb, length}
+use Rattle.std.specs.Prelude.{◌≡◌, ◌≤◌, ℕ, ◌+◌, Bool, true, false, List, eqb, leb, length}
 use Rattle.payload.specs.Test.{pick, both}
 use Rattle.octets.specs.Parts.{number_at, octet_at}
-use Rattle.events.specs.declared.framing.Field.{Field}
-use Rattle.events.specs.declared.framing.Field.TheVariants.{Cut, Bad, Whole}
+use Rattle.events.specs.Field.{Field, Cut, Bad, Whole}
 
 -- whether a field of the tag may have n octets of content: 11 add, 12 packet, 13 close, 14 server
 abbrev pub fits : ℕ → ℕ → Bool
@@ -30,3 +29,11 @@ frame_by true true true true n = Whole n
 -- the field that s begins with
 unfoldable pub frame_of : List ℕ → Field
 frame_of s = frame_by (leb 3 (length s)) (fits (octet_at s 0) (number_at s 1 2)) (leb (size_in s) (length s)) (signal_fits s) (size_in s)
+
+-- ---- what the code reads of a field
+
+-- the octets that it takes from a whole field f, by its tag
+pub record Enough (f : List ℕ) : Type 0 where
+  pub least : 4 ≤ length f
+  pub add : octet_at f 0 ≡ 0x11 → 28 ≤ length f
+  pub server : (octet_at f 0 ≡ 0x11 → ⊥) → (octet_at f 0 ≡ 0x12 → ⊥) → (octet_at f 0 ≡ 0x13 → ⊥) → 5 ≤ length f

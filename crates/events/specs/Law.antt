@@ -9,10 +9,10 @@ use Rattle.events.specs.Framing.{frame_of}
 use Rattle.events.specs.Lines.{end_line, bad_line}
 use Rattle.events.specs.Event.{tag_in, lsp_in}
 use Rattle.events.specs.Printed.{ran_of, begin, printed_from, printed}
-use Rattle.events.specs.declared.framing.Field.{Field}
-use Rattle.events.specs.declared.framing.Field.TheVariants as field
+use Rattle.events.specs.Field.{Field}
+use Rattle.events.specs.Field as field
+use Rattle.events.specs.Outcomes.{Bad}
 use Rattle.events.specs.declared.reckoning.Reckoning.{Reckoning}
-use Rattle.events.specs.declared.reckoning.Rest.TheVariants.{Bad}
 
 -- ---- pieces
 

@@ -1,8 +1,10 @@
+pub mod Field
 pub mod Framing
 pub mod Lines
 pub mod Decimal
 pub mod Building
 pub mod Event
+pub mod Outcomes
 pub mod Own
 pub mod Paths
 pub mod Printed

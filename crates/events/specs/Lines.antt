@@ -1,9 +1,9 @@
 -- The lines, as octets of ASCII.
 -- Assumes nothing.
-use Rattle.std.specs.Prelude.{ℕ, zero, suc, ◌+◌, ◌/◌, ◌%◌, Bool, true, false, List, [], ◌∷◌, ◌++◌, eqb, ltb}
+use Rattle.std.specs.Prelude.{ℕ, zero, suc, ◌+◌, ◌/◌, ◌%◌, Bool, true, false, List, [], ◌∷◌, ◌++◌, Option, Some, None, eqb, ltb}
 use Rattle.payload.specs.Test.{pick}
 use Rattle.window.specs.declared.state.Record.{Record}
-use Rattle.window.specs.declared.state.Record.TheVariants.{Nothing, U, B}
+use Rattle.window.specs.declared.state.Record.TheVariants.{U, B}
 
 -- a number of at most so many decimal digits, with no zero before it
 unfoldable pub spelt : ℕ → ℕ → List ℕ
@@ -25,17 +25,17 @@ abbrev pub record_line : ℕ → ℕ → ℕ → ℕ → List ℕ
 record_line lsp letter from until = decimal lsp ++ (space ∷ letter ∷ space ∷ (decimal from ++ (space ∷ (decimal until ++ line_end))))
 
 -- U or B; no record has no line
-abbrev pub handed_line : ℕ → Record → List ℕ
-handed_line lsp Nothing = []
-handed_line lsp (U from until) = record_line lsp 85 from until
-handed_line lsp (B from until) = record_line lsp 66 from until
+abbrev pub handed_line : ℕ → Option Record → List ℕ
+handed_line lsp None = []
+handed_line lsp (Some (U from until)) = record_line lsp 85 from until
+handed_line lsp (Some (B from until)) = record_line lsp 66 from until
 
 -- r, the event's index and the number of its refusal
 abbrev pub refused_line : ℕ → ℕ → List ℕ
 refused_line index number = 114 ∷ space ∷ (decimal index ++ (space ∷ (decimal number ++ line_end)))
 
 -- the line of an event with the index, on the LSP, that was answered the number and handed out the record
-abbrev pub line_of : ℕ → ℕ → ℕ → Record → List ℕ
+abbrev pub line_of : ℕ → ℕ → ℕ → Option Record → List ℕ
 line_of index lsp number handed = pick (eqb number 0) (handed_line lsp handed) (refused_line index number)
 
 -- end, and the number of events; bad, and the field's offset

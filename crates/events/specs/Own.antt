@@ -5,7 +5,7 @@ use Rattle.payload.specs.Test.{pick, both}
 use Rattle.payload.specs.Writing.{write_of}
 use Rattle.lsp.specs.Steps.{same}
 use Rattle.lsp.specs.declared.path.Lsp.{Lsp}
-use Rattle.events.specs.declared.own.Own.{Own}
+use Rattle.events.specs.Outcomes.{Own}
 
 abbrev pub written_own : ℕ → List ℕ → ℕ × List ℕ
 written_own kind ttsi = write_of (pick (eqb kind 0) 0x01 0x07) ttsi kind 0 0 (replicate 44 0)

@@ -1,27 +1,22 @@
--- An event on the path that it names, as the code takes it: the path's step, or one of two short ways to the same.
+-- An event on the path that it names: the path's step; and when a close only moves the rows on.
 -- Assumes nothing.
-use Rattle.std.specs.Prelude.{ℕ, Bool, true, false, List, eqb, drop}
+use Rattle.std.specs.Prelude.{ℕ, Bool, true, false, List, None, eqb, drop}
 use Rattle.payload.specs.Test.{both}
 use Rattle.octets.specs.Parts.{octet_at}
 use Rattle.window.specs.Steady.{is_steady, moved_on}
-use Rattle.window.specs.declared.state.Record.TheVariants.{Nothing}
 use Rattle.lsp.specs.Steps.{receive_of, close_of, server_of, with_state}
 use Rattle.lsp.specs.declared.path.Lsp.{Lsp}
 use Rattle.events.specs.Event.{tag_in}
-use Rattle.events.specs.Own.{is_own}
-use Rattle.events.specs.declared.own.Own.{Own}
-use Rattle.events.specs.declared.steps.Stepped.{Stepped}
-use Rattle.events.specs.declared.steps.Way.{Way}
-use Rattle.events.specs.declared.steps.Way.TheVariants.{Counts, MovesOn, Steps}
+use Rattle.events.specs.Outcomes.{Stepped}
 
 abbrev pub received : Lsp → List ℕ → Stepped
-received l p = record { number = (receive_of l p).0.number; handed = Nothing; next = (receive_of l p).1 }
+received l p = record { number = (receive_of l p).0.number; handed = None; next = (receive_of l p).1 }
 
 abbrev pub closed : Lsp → Stepped
 closed l = record { number = (close_of l).number; handed = (close_of l).handed; next = (close_of l).next }
 
 abbrev pub signalled : Lsp → ℕ → Stepped
-signalled l v = record { number = (server_of l v).number; handed = Nothing; next = (server_of l v).next }
+signalled l v = record { number = (server_of l v).number; handed = None; next = (server_of l v).next }
 
 abbrev pub step_by : (packet close : Bool) → Lsp → List ℕ → Stepped
 step_by true close l f = received l (drop 4 f)
@@ -38,13 +33,3 @@ quiet l = both (eqb l.fdi.left 0) (both (eqb l.fdi.dt 0) (both (eqb l.fdi.dl 0) 
 
 abbrev pub moved : Lsp → Lsp
 moved l = with_state l (moved_on l.state)
-
-abbrev pub way_by : (packet close own quiet : Bool) → Way
-way_by true close true quiet = Counts
-way_by true close false quiet = Steps
-way_by false true own true = MovesOn
-way_by false true own false = Steps
-way_by false false own quiet = Steps
-
-unfoldable pub way_of : Lsp → Own → List ℕ → Way
-way_of l o f = way_by (eqb (tag_in f) 0x12) (eqb (tag_in f) 0x13) (is_own o (drop 4 f)) (quiet l)

@@ -4,16 +4,13 @@ use Rattle.std.specs.Prelude.{ℕ, zero, suc, ◌+◌, ◌-◌, ◌/◌, min, Bo
 use Rattle.payload.specs.Test.{pick}
 use Rattle.octets.specs.Parts.{laid}
 use Rattle.table.specs.Steps.{empty}
-use Rattle.table.specs.declared.paths.Table.{Table}
 use Rattle.events.specs.Framing.{frame_of}
 use Rattle.events.specs.Lines.{line_of, last_line}
 use Rattle.events.specs.Event.{lsp_in, told_of}
-use Rattle.events.specs.declared.framing.Field.{Field}
-use Rattle.events.specs.declared.framing.Field.TheVariants as field
+use Rattle.events.specs.Field.{Field}
+use Rattle.events.specs.Field as field
+use Rattle.events.specs.Outcomes.{Rest, Going, Cut, Bad, Ran}
 use Rattle.events.specs.declared.reckoning.Reckoning.{Reckoning}
-use Rattle.events.specs.declared.reckoning.Rest.{Rest}
-use Rattle.events.specs.declared.reckoning.Rest.TheVariants.{Going, Cut, Bad}
-use Rattle.events.specs.declared.reckoning.Ran.{Ran}
 
 -- ---- one event
 
@@ -79,16 +76,6 @@ abbrev pub printed : List ℕ → List ℕ
 printed s = printed_from begin s
 
 -- ---- what the calls promise
-
-abbrev pub ran_is : Table → ℕ → ℕ → ℕ → ℕ → Rest → Ran
-ran_is table events offset taken text rest =
-    record { next = record { table = table; events = events; offset = offset }; taken = taken; text = text; rest = rest }
-
--- what follows where no whole field does
-abbrev pub rest_of : Field → Rest
-rest_of field.Cut = Cut
-rest_of field.Bad = Bad
-rest_of (field.Whole n) = Going
 
 -- a line takes at most 65 octets of the lent buffer b
 abbrev pub run_as : Run → List ℕ → Ran × List ℕ

@@ -1,70 +1,52 @@
 // Each path's own packet, octet for octet: most packets are one, and then needn't be taken apart.
-ghost use Rattle.std.specs.Prelude.{◌≡◌, map, length};
+ghost use Rattle.std.specs.Prelude.{◌≡◌, map};
+ghost use Rattle.lsp.specs.Steps.{same};
 ghost use Rattle.events.specs.Own.{own_of, is_own};
+ghost use Rattle.events.specs.Outcomes.{own_in};
 
 use lsp::Lsp;
-use payload::{FunctionType, LENGTH};
+use payload::{FunctionType, Kind, LENGTH};
 
 // A path whose kind or TTSI breaks its rule, as no call makes one, has none.
-#[derive(Clone, Copy)]
-pub(crate) struct Own {
-    pub there: bool,
-    pub octets: [u8; LENGTH],
-}
+pub(crate) type Own = Option<[u8; LENGTH]>;
 
+#[tactic(auto, unfolding(crate::specs::Own::own_of))]
 fn own_of(l: Lsp) -> Own
-    ensures { result ≡ own_of l }
+    ensures { own_in result ≡ own_of l }
 {
-    let mut ty = FunctionType::FFD;
-    if l.kind == 0 {
-        ty = FunctionType::CV;
-    }
-    let ttsi = l.ttsi;
-    let mut octets = [0u8; LENGTH];
-    let number = payload::write(ty, &ttsi, l.kind, 0, 0, &mut octets);
-    Own {
-        there: number == 0,
-        octets,
-    }
+    let ty = if l.kind == Kind::CV {
+        FunctionType::Cv
+    } else {
+        FunctionType::Ffd
+    };
+    let mut octets = [0; LENGTH];
+    payload::write(ty as u8, &l.ttsi, l.kind, 0, 0, &mut octets).ok()?;
+    Some(octets)
 }
 
 pub(crate) fn owns_of(lsps: [Lsp; 64]) -> [Own; 64]
-    ensures { (result ≡ map own_of lsps) × (length lsps ≡ 64) }
+    ensures { map own_in result ≡ map own_of lsps }
 {
-    let none = Own {
-        there: false,
-        octets: [0; LENGTH],
-    };
-    let mut owns = [none; 64];
-    let mut i = 0;
-    while i < 64 {
-        let l = lsps[i];
-        owns[i] = own_of(l);
-        i += 1;
-    }
-    owns
+    lsps.map(own_of)
 }
 
-impl Own {
-    // Whether the payload is this packet. No octet ends the loop early, so that many are compared at a time.
-    pub(crate) fn is(self, p: &[u8]) -> bool
-        ensures { result ≡ is_own self p.now }
-    {
-        if !self.there {
-            return false;
-        }
-        if p.len() != LENGTH {
-            return false;
-        }
-        let octets = self.octets;
-        let mut same = true;
-        let mut i = 0;
-        while i < LENGTH {
-            if p[i] != octets[i] {
-                same = false;
-            }
-            i += 1;
-        }
-        same
+// By arrays, whose length is known: by a slice's `==`, a scan of any length, a run takes a seventh longer.
+#[tactic(auto, using(lsp::proofs::Rows::same_is, lsp::proofs::Same::other_length))]
+fn are(octets: &[u8; LENGTH], p: &[u8]) -> bool
+    ensures { result ≡ same p.now octets.now }
+{
+    match p.as_array() {
+        Some(p) => p == octets,
+        None => false,
+    }
+}
+
+// Whether the payload is this packet.
+pub(crate) fn is_own(own: &Own, p: &[u8]) -> bool
+    ensures { result ≡ is_own (own_in own.now) p.now }
+{
+    match own {
+        Some(octets) => are(octets, p),
+        None => false,
     }
 }

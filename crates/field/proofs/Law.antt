@@ -1,20 +1,20 @@
 -- A field and its path are inverse: octets are a field exactly where they are the octets of a path that obeys the rules. Assumes nothing.
 use mathlib.Core.Path.{◌≡◌, refl, sym, ap, ap₂, ◌∙◌, subst}
-use mathlib.Core.Bool.{Bool, true, false}
+use mathlib.Core.Bool.{true}
 use mathlib.Core.List.{List, [], ◌∷◌}
 use Prim.Native.Nat.{ℕ, ◌+◌, ◌-◌, ◌^◌, ◌≤◌, ◌<◌}
 use native.Mathlib.Omega.{arith}
 use lib.Dec.{eqb, leb}
 use lib.ListN.{length, get_or}
 use lib.Seq.{get_or-take}
-use borrow.Author.Tests.{eqb-true, eq-eqb, leb-true, leb-false}
+use borrow.Author.Tests.{eqb-true, eq-eqb}
 use Rattle.payload.specs.Law.{Octets}
 use Rattle.payload.proofs.Rows.{ttsi_long}
 use Rattle.payload.proofs.RateTables.{life_most}
 use Rattle.octets.specs.Number.{octets, number_of}
 use Rattle.octets.specs.Parts.{joined, part, number_at, octet_at, cut_from}
 use Rattle.octets.proofs.Laws.{length-octets, number_octets}
-use Rattle.octets.proofs.Parts.{joined_parts, parts_joined, length-joined, length_part, part_octets, number_part, number_part_lt, octet_part, one_octet}
+use Rattle.octets.proofs.Parts.{joined_parts, parts_joined, length-joined, part_octets, number_part, number_part_lt, octet_part, one_octet}
 use Rattle.window.specs.View.{code_of, unavailable_of}
 use Rattle.window.specs.declared.state.Availability.{Availability}
 use Rattle.window.specs.declared.state.Availability.TheVariants.{Available, Unavailable}
@@ -32,12 +32,11 @@ widths = 3 ∷ 1 ∷ 20 ∷ 4 ∷ 8 ∷ 11 ∷ 11 ∷ 2 ∷ 1 ∷ 1 ∷ 8 ∷ 1 
 
 -- ---- octets that are a field, back from their path
 
-three : (l : List ℕ) → length l ≡ 3 → get_or l 0 0 ∷ get_or l 1 0 ∷ get_or l 2 0 ∷ [] ≡ l
-three [] h = absurd (omega arith)
-three (x ∷ []) h = absurd (omega arith)
-three (x ∷ y ∷ []) h = absurd (omega arith)
-three (x ∷ y ∷ z ∷ []) h = refl
-three (x ∷ y ∷ z ∷ w ∷ l) h = absurd (omega arith)
+head_part : (s : List ℕ) → length s ≡ 79 → part s 0 3 ≡ octet_at s 0 ∷ octet_at s 1 ∷ octet_at s 2 ∷ []
+head_part [] n = absurd (omega arith)
+head_part (a ∷ []) n = absurd (omega arith)
+head_part (a ∷ b ∷ []) n = absurd (omega arith)
+head_part (a ∷ b ∷ c ∷ s) n = refl
 
 module _ (s : List ℕ) (o : Octets s) (t : is_field s ≡ true) where
   tests : Each (field_tests s)
@@ -50,10 +49,7 @@ module _ (s : List ℕ) (o : Octets s) (t : is_field s ≡ true) where
   head_back : 0x02 ∷ 0 ∷ 76 ∷ [] ≡ part s 0 3
   head_back =
       cc (
-        three (part s 0 3) (length_part s 0 3 (omega (arith, size))),
-        get_or-take 3 s 0 0 (omega arith),
-        get_or-take 3 s 1 0 (omega arith),
-        get_or-take 3 s 2 0 (omega arith),
+        head_part s size,
         eqb-true (octet_at s 0) 0x02 tests.1.0,
         eqb-true (octet_at s 1) 0 tests.1.1.0,
         eqb-true (octet_at s 2) 76 tests.1.1.1.0,
@@ -106,13 +102,7 @@ since_lt closed Available h l = omega arith
 since_lt closed (Unavailable since) h l = omega (arith, h since refl)
 
 fdi_dt_lt : (kind : ℕ) (f : Fdi) → SoundFdi kind f → f.dt < 65536
-fdi_dt_lt kind f h = go (leb 1 f.left) refl
-  where
-    go : (b : Bool) → leb 1 f.left ≡ b → f.dt < 65536
-    go true e = defect_type_lt f.dt (h.told (leb-true 1 f.left e))
-    go false e =
-        let none : f.left ≡ 0 = omega (arith, leb-false 1 f.left e) in
-        omega (arith, (h.gone none).0)
+fdi_dt_lt kind f h = grind (arith, h.gone, h.told, defect_type_lt f.dt)
 
 module _ (l : Lsp) (h : Sound l) where
   parts_forth : cut_from 0 widths (field_of l) ≡ parts_of l

@@ -1,112 +1,55 @@
 // A path's field, written.
 ghost use Rattle.std.specs.Prelude.{◌≡◌, ◌+◌, ◌≤◌, length};
-ghost use Rattle.octets.specs.Number.{octets};
-ghost use Rattle.octets.specs.Parts.{joined, laid};
+ghost use Rattle.octets.specs.Parts.{laid};
+ghost use Rattle.refusal.specs.Numbers.{number_in};
 ghost use Rattle.window.specs.View.{unavailable_of};
-ghost use Rattle.field.specs.Field.{server_of, head_parts, row_parts, state_parts, signal_parts, write_of};
+ghost use Rattle.field.specs.Field.{write_of};
 
-use lsp::{Fdi, Lsp};
-use window::{Availability, Defect};
+use lsp::Lsp;
+use refusal::Refusal;
+use window::Availability;
 
-fn put(s: &mut [u8], at: usize, from: &[u8])
-    requires { at + length from.now ≤ length s.old }
+fn put(s: &mut [u8; 79], at: usize, from: &[u8])
+    requires { at + length from.now ≤ 79 }
     ensures { s.new ≡ laid s.old at from.now }
 {
-    let e = at + from.len();
-    octets::copy(from, &mut s[at..e]);
+    s[at..at + from.len()].copy_from_slice(from);
 }
 
-fn put_number(s: &mut [u8], at: usize, width: usize, x: u64)
-    requires { at + width ≤ length s.old }
-    ensures { s.new ≡ laid s.old at (octets width x) }
-{
-    let e = at + width;
-    octets::put_number(&mut s[at..e], x);
-}
-
-fn flag_of(a: Availability) -> u8
-    ensures { result ≡ (unavailable_of a).0 }
+// Whether the path is unavailable, as 1 or 0, and since when.
+fn unavailable_of(a: Availability) -> (u8, u64)
+    ensures { result ≡ unavailable_of a }
 {
     match a {
-        Availability::Available => 0,
-        Availability::Unavailable { since: _ } => 1,
+        Availability::Available => (0, 0),
+        Availability::Unavailable { since } => (1, since),
     }
 }
 
-fn since_of(a: Availability) -> u64
-    ensures { result ≡ (unavailable_of a).1 }
+// The field of a path over the first 79 octets of s; Short where it has fewer.
+pub fn write(s: &mut [u8], l: Lsp) -> Result<(), Refusal>
+    ensures { (number_in result, s.new) ≡ write_of l s.old }
 {
-    match a {
-        Availability::Available => 0,
-        Availability::Unavailable { since } => since,
-    }
-}
-
-fn server_of(on: bool) -> u8
-    ensures { result ≡ server_of on }
-{
-    if on {
-        return 1;
-    }
-    0
-}
-
-fn head(s: &mut [u8], kind: u8, ttsi: [u8; 20], dl: u32, closed: u64)
-    requires { length s.old ≡ 36 }
-    ensures { s.new ≡ joined (head_parts kind ttsi dl closed) }
-{
-    put(s, 0, &[2, 0, 76]);
-    put(s, 3, &[kind]);
-    put(s, 4, &ttsi);
-    put_number(s, 24, 4, dl as u64);
-    put_number(s, 28, 8, closed);
-}
-
-fn rows(s: &mut [u8], e: [u8; 11], u: [u8; 11])
-    requires { length s.old ≡ 22 }
-    ensures { s.new ≡ joined (row_parts e u) }
-{
-    put(s, 0, &e);
-    put(s, 11, &u);
-}
-
-fn state(s: &mut [u8], d: Defect, stood: u8, a: Availability)
-    requires { length s.old ≡ 12 }
-    ensures { s.new ≡ joined (state_parts d stood a) }
-{
-    put_number(s, 0, 2, d.code() as u64);
-    put(s, 2, &[stood]);
-    put(s, 3, &[flag_of(a)]);
-    put_number(s, 4, 8, since_of(a));
-}
-
-fn signals(s: &mut [u8], server: bool, fdi: Fdi)
-    requires { length s.old ≡ 9 }
-    ensures { s.new ≡ joined (signal_parts server fdi) }
-{
-    put(s, 0, &[server_of(server)]);
-    put_number(s, 1, 2, fdi.left as u64);
-    put_number(s, 3, 2, fdi.dt as u64);
-    put_number(s, 5, 4, fdi.dl as u64);
-}
-
-// The field of a path over the first octets of s: 11, or 0.
-pub fn write(s: &mut [u8], l: Lsp) -> u8
-    ensures { (result, s.new) ≡ write_of l s.old }
-{
-    if s.len() < 79 {
-        return 11;
-    }
-    let ttsi = l.ttsi;
+    let Some(field) = s.first_chunk_mut() else {
+        return Err(Refusal::Short);
+    };
     let st = l.state;
-    head(&mut s[0..36], l.kind, ttsi, l.dl, st.closed);
-    let e = st.e;
-    let u = st.u;
-    rows(&mut s[36..58], e, u);
-    let d = st.defect;
-    let a = st.availability;
-    state(&mut s[58..70], d, st.stood, a);
+    let (unavailable, since) = unavailable_of(st.availability);
     let fdi = l.fdi;
-    signals(&mut s[70..79], l.server, fdi);
-    0
+    put(field, 0, &[2, 0, 76]);
+    put(field, 3, &[l.kind]);
+    put(field, 4, &l.ttsi);
+    put(field, 24, &l.dl.to_be_bytes());
+    put(field, 28, &st.closed.to_be_bytes());
+    put(field, 36, &st.e);
+    put(field, 47, &st.u);
+    put(field, 58, &st.defect.code().to_be_bytes());
+    put(field, 60, &[st.stood]);
+    put(field, 61, &[unavailable]);
+    put(field, 62, &since.to_be_bytes());
+    put(field, 70, &[u8::from(l.server)]);
+    put(field, 71, &fdi.left.to_be_bytes());
+    put(field, 73, &fdi.dt.to_be_bytes());
+    put(field, 75, &fdi.dl.to_be_bytes());
+    Ok(())
 }

@@ -1,12 +1,15 @@
 -- The paper's cases (`specs/Cases.antt`): the answers are computed, and by the theorem the rules give them. Assumes nothing.
 use Prim.Native.Nat.{ℕ, zero, suc, ◌<◌}
 use mathlib.Core.Path.{◌≡◌, refl, ap}
-use mathlib.Core.Bool.{Bool, true, false}
+use mathlib.Core.Bool.{Bool, true}
 use mathlib.Core.List.{List, [], ◌∷◌, map}
 use native.Mathlib.Omega.{arith}
-use lib.Dec.{leb, ltb}
+use lib.Dec.{ltb}
 use lib.ListN.{length, drop}
-use borrow.Author.Tests.{ltb-true, leb-true, leb-false}
+use borrow.Author.Tests.{ltb-true}
+use mathlib.Core.Logic.{⊎_elim}
+use Rattle.std.proofs.lemmas.Bool.{cases_lt}
+use Rattle.std.specs.Prelude.{Option, Some, None}
 use Rattle.payload.specs.Test.{both}
 use Rattle.payload.specs.Layout.{run}
 use Rattle.payload.specs.Reading.{read_of}
@@ -23,7 +26,7 @@ use Rattle.rules.specs.Cases as rule-cases
 use Rattle.rules.specs.Cases.{Outcome}
 use Rattle.window.specs.View.{record_in, record_out, view}
 use Rattle.window.specs.declared.state.Record.{Record}
-use Rattle.window.specs.declared.state.Record.TheVariants.{Nothing, U, B}
+use Rattle.window.specs.declared.state.Record.TheVariants.{U, B}
 use Rattle.lsp.specs.Steps as lsp
 use Rattle.lsp.specs.Steps.{same}
 use Rattle.lsp.specs.History.{History, received, closed, slots, limit}
@@ -96,10 +99,10 @@ availability_given : (c : Counts) (n : ℕ) (s : machine.State) (a : machine.Ava
 availability_given c n s machine.available w h = w.in_service.0 h
 availability_given c n s (machine.unavailable from) w h = (w.out_since from).0 h
 
-record_given : (r : Record) (q : rules.Record) → record_in r ≡ q → r ≡ record_out q
-record_given Nothing q e = ap record_out e
-record_given (U from until) q e = ap record_out e
-record_given (B from until) q e = ap record_out e
+record_given : (r : Option Record) (q : rules.Record) → record_in r ≡ q → r ≡ record_out q
+record_given None q e = ap record_out e
+record_given (Some (U from until)) q e = ap record_out e
+record_given (Some (B from until)) q e = ap record_out e
 
 carry : (es ds : List ℕ) (o : Outcome) → answered (counts es) ≡ cases.closed 0 ds o → Carried es o
 carry es ds o e =
@@ -126,11 +129,9 @@ carry es ds o e =
     there = omega (arith, w.count, ap length r.single)
 
     below : slots (past_at (world_of es).pasts 0).history < limit
-    below = go (leb limit (slots (past_at (world_of es).pasts 0).history)) refl
-      where
-        go : (b : Bool) → leb limit (slots (past_at (world_of es).pasts 0).history) ≡ b → slots (past_at (world_of es).pasts 0).history < limit
-        go true q = absurd (omega (arith, number, ((w.close 0).full there (leb-true limit _ q)).number))
-        go false q = leb-false limit _ q
+    below =
+        ⊎_elim (λ k. k) (λ k. absurd (omega (arith, number, ((w.close 0).full there k).number)))
+        (cases_lt (slots (past_at (world_of es).pasts 0).history) limit)
 
     kind : (past_at (world_of es).pasts 0).added.kind ≡ 0
     kind = ap (λ (ps : List Past). (past_at ps 0).added.kind) r.single

@@ -1,12 +1,13 @@
 -- What the theorem means to those who run the node (`specs/Corollaries.antt`). Assumes nothing.
 use mathlib.Core.Path.{◌≡◌, refl, ap, sym, subst, ◌∙◌}
-use mathlib.Core.Bool.{Bool, true, false}
 use mathlib.Core.Logic.{◌⊎◌, inl, inr, ⊎_elim}
 use mathlib.Core.List.{List}
 use Prim.Native.Nat.{ℕ, ◌≤◌, ◌<◌}
 use native.Mathlib.Omega.{arith}
 use lib.Dec.{eqb}
-use borrow.Author.Tests.{eqb-true, eqb-false, ne_eqb}
+use borrow.Author.Tests.{ne_eqb}
+use Rattle.std.proofs.lemmas.Bool.{cases_eq}
+use Rattle.std.specs.Prelude.{Some}
 use Rattle.payload.specs.Test.{pick}
 use Rattle.rules.specs.Counts.{Counts, sum_last}
 use Rattle.rules.specs.Rules as rules
@@ -73,11 +74,9 @@ module _ (w : World) (c : Claim w) (i : ℕ) (o : Open w i) where
   never_silence m = (silent Locv rules.locv refl (λ e u q. q.1) m, silent Mismatch rules.mismatch refl (λ e u q. q.1) m)
 
   before : RightDefect counts (slots (past_at w.pasts i).history) (defect_in (path_at w.table i).state.defect)
-  before = go (eqb (past_at w.pasts i).added.kind 0) refl
-    where
-      go : (b : Bool) → eqb (past_at w.pasts i).added.kind 0 ≡ b → RightDefect counts (slots (past_at w.pasts i).history) (defect_in (path_at w.table i).state.defect)
-      go true q = ((c.path i o.there).cv (eqb-true _ 0 q)).defect
-      go false q = ((c.path i o.there).ffd (eqb-false _ 0 q)).defect
+  before =
+      ⊎_elim (λ q. ((c.path i o.there).cv q).defect) (λ q. ((c.path i o.there).ffd q).defect)
+      (cases_eq (past_at w.pasts i).added.kind 0)
 
   stood : (d : Defect) (k : Kind) → defect_in d ≡ stands k → Silence k → 1 ≤ arrived w i → (close_of w.table i).defect ≡ d → (path_at w.table i).state.defect ≡ d
   stood d k q z m e =
@@ -112,13 +111,9 @@ module _ (w : World) (c : Claim w) (i : ℕ) (o : Open w i) where
       there : i < (close_of w.table i).next.count
       there = subst (λ (n : ℕ). i < n) (sym ((tables.apart).close w.table i).count) o.there
 
-  module _ (from until : ℕ) (e : (close_of w.table i).handed ≡ U from until) where
+  module _ (from until : ℕ) (e : (close_of w.table i).handed ≡ Some (U from until)) where
     is_cv_lem : (past_at w.pasts i).added.kind ≡ 0
-    is_cv_lem = go (eqb (past_at w.pasts i).added.kind 0) refl
-      where
-        go : (b : Bool) → eqb (past_at w.pasts i).added.kind 0 ≡ b → (past_at w.pasts i).added.kind ≡ 0
-        go true q = eqb-true _ 0 q
-        go false q = let n = right.ffd (eqb-false _ 0 q) in absurd (let z : ◌≡◌ {A = ℕ} 0 1 = cc in omega arith)
+    is_cv_lem = ⊎_elim (λ q. q) (λ q. let n = right.ffd q in absurd (cc)) (cases_eq (past_at w.pasts i).added.kind 0)
 
     hands : HandsOut 1 counts (slot w i) (rules.U from until)
     hands = (right.cv is_cv_lem (rules.U from until)).0 e

@@ -5,9 +5,10 @@ use mathlib.Core.Bool.{Bool, true, false}
 use mathlib.Core.List.{List, ◌∷◌}
 use Prim.Native.Nat.{ℕ, ◌≤◌, ◌<◌}
 use native.Mathlib.Omega.{arith}
-use lib.Dec.{eqb, leb, ltb}
+use lib.Dec.{eqb, leb}
 use lib.Seq.{set_out}
-use borrow.Author.Tests.{ltb-true, ltb-false, leb-true, leb-false}
+use mathlib.Core.Logic.{⊎_elim}
+use Rattle.std.proofs.lemmas.Bool.{cases_lt}
 use Rattle.payload.specs.Reading.{Answer}
 use Rattle.lsp.specs.Steps as path
 use Rattle.lsp.specs.History.{Event, signalled, closes, History, Added, received, slots, limit, closed, signalled_as}
@@ -27,11 +28,7 @@ module _ (w : World) (l : Lawful w.table) (c : Claim w) (i : ℕ) where
   h = (past_at w.pasts i).history
 
   placed : {A : Type 0} → (i < w.table.count → A) → (w.table.count ≤ i → A) → A
-  placed {A} y n = go (ltb i w.table.count) refl
-    where
-      go : (b : Bool) → ltb i w.table.count ≡ b → A
-      go true e = y (ltb-true i w.table.count e)
-      go false e = n (ltb-false i w.table.count e)
+  placed y n = ⊎_elim y n (cases_lt i w.table.count)
 
   absent : (f : Added → History → History) → w.table.count ≤ i → goes_on i f w.pasts ≡ w.pasts
   absent f m = set_out w.pasts i _ (omega (arith, c.count))
@@ -56,11 +53,7 @@ module _ (w : World) (l : Lawful w.table) (c : Claim w) (i : ℕ) where
   close_kept n = placed (λ m. unchanged w.pasts i (λ a h. closed h) (no_close_mark h (at_limit_lem m))) (absent (λ a h. closed h))
     where
       at_limit_lem : i < w.table.count → limit ≤ slots h
-      at_limit_lem m = go (leb limit (slots h)) refl
-        where
-          go : (b : Bool) → leb limit (slots h) ≡ b → limit ≤ slots h
-          go true e = leb-true limit (slots h) e
-          go false e = absurd (n ((c.close i).done m (leb-false limit (slots h) e)).number)
+      at_limit_lem m = ⊎_elim (λ k. absurd (n ((c.close i).done m k).number)) (λ k. k) (cases_lt (slots h) limit)
 
   pub close_newest : number (close i) w.table ≡ 0 → Newest closes i w.pasts (goes_on i (λ a h. closed h) w.pasts)
   close_newest z =
@@ -69,11 +62,7 @@ module _ (w : World) (l : Lawful w.table) (c : Claim w) (i : ℕ) where
       (λ m. absurd (omega (arith, ((c.close i).none m).number)))
     where
       below : i < w.table.count → slots h < limit
-      below m = go (leb limit (slots h)) refl
-        where
-          go : (b : Bool) → leb limit (slots h) ≡ b → slots h < limit
-          go true e = absurd (omega (arith, ((c.close i).full m (leb-true limit (slots h) e)).number))
-          go false e = leb-false limit (slots h) e
+      below m = ⊎_elim (λ k. k) (λ k. absurd (omega (arith, ((c.close i).full m k).number))) (cases_lt (slots h) limit)
 
   server_none : (v : ℕ) → w.table.count ≤ i → number (server i v) w.table ≡ 1
   unfolding server_of

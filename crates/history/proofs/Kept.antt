@@ -19,6 +19,7 @@ use Rattle.lsp.proofs.Follows.{Follows, at_first, receives, signals, closes_one}
 use Rattle.table.specs.Steps.{nowhere, present, path_at, put, any_expects, add_by, add_of, receive_by, receive_of, close_by, close_of, server_by, server_of}
 use Rattle.table.specs.Lawful.{Lawful}
 use Rattle.table.specs.declared.paths.Table.{Table}
+use Rattle.image.proofs.Law.{all_present}
 use Rattle.history.specs.Calls.{Past, nobody, past_at, goes_on}
 
 abbrev pub Fits : Lsp → Past → Type 0
@@ -31,18 +32,14 @@ pub record Paired (t : Table) (ps : List Past) : Type 0 where
 -- ---- which paths are there
 
 module _ (t : Table) (w : Lawful t) where
-  pub all_present : present t ≡ t.count
-  all_present = go (ltb t.count 64) refl
-    where
-      go : (b : Bool) → ltb t.count 64 ≡ b → pick b t.count 64 ≡ t.count
-      go true e = refl
-      go false e = omega (arith, w.few, ltb-false t.count 64 e)
+  pub all_there : present t ≡ t.count
+  all_there = all_present t w.few
 
   pub is_there : (i : ℕ) → i < t.count → ltb i (present t) ≡ true
-  is_there i h = lt-ltb i (present t) (omega (arith, all_present))
+  is_there i h = lt-ltb i (present t) (omega (arith, all_there))
 
   pub is_not_there : (i : ℕ) → t.count ≤ i → ltb i (present t) ≡ false
-  is_not_there i h = le-ltb i (present t) (omega (arith, all_present))
+  is_not_there i h = le-ltb i (present t) (omega (arith, all_there))
 
 -- ---- a call on path i
 
@@ -52,7 +49,7 @@ module _ (t : Table) (ps : List Past) (w : Lawful t) (k : Paired t ps) (i : ℕ)
   here h l x f = record { count = length-set ps i x ∙ k.count; each = λ j m. at j m (eqb j i) refl }
     where
       below : i < t.count
-      below = omega (arith, ltb-true i (present t) h, all_present t w)
+      below = omega (arith, ltb-true i (present t) h, all_there t w)
 
       at : (j : ℕ) → j < t.count → (b : Bool) → eqb j i ≡ b → Fits (path_at (put t i l) j) (past_at (set ps i x) j)
       at j m true e =
@@ -64,13 +61,13 @@ module _ (t : Table) (ps : List Past) (w : Lawful t) (k : Paired t ps) (i : ℕ)
           subst₂ Fits (sym (get_or-set_other t.lsps i j l nowhere n)) (sym (get_or-set_other ps i j x nobody n)) (k.each j m)
 
   pub no_path : ltb i (present t) ≡ false → (x : Past) → set ps i x ≡ ps
-  no_path h x = set_out ps i x (omega (arith, ltb-false i (present t) h, all_present t w, k.count))
+  no_path h x = set_out ps i x (omega (arith, ltb-false i (present t) h, all_there t w, k.count))
 
   nowhere_changed : ltb i (present t) ≡ false → (x : Past) → Paired t (set ps i x)
   nowhere_changed h x = subst (Paired t) (sym (no_path h x)) k
 
   was : ltb i (present t) ≡ true → Fits (path_at t i) (past_at ps i)
-  was h = k.each i (omega (arith, ltb-true i (present t) h, all_present t w))
+  was h = k.each i (omega (arith, ltb-true i (present t) h, all_there t w))
 
   pub receive_paired : (p : List ℕ) → Paired (receive_of t i p).1 (goes_on i (λ a h. received a p h) ps)
   unfolding receive_of

@@ -3,7 +3,6 @@ use mathlib.Core.Path.{◌≡◌, refl, ap, sym, subst, ◌∙◌}
 use mathlib.Core.Bool.{Bool, true, false}
 use mathlib.Core.List.{List, [], ◌∷◌, ◌++◌, Memᴰ}
 use Prim.Native.Nat.{ℕ}
-use native.Mathlib.Omega.{arith}
 use lib.Dec.{eqb}
 use borrow.Author.Tests.{eq-eqb}
 use Rattle.payload.specs.Test.{pick}
@@ -44,8 +43,8 @@ module _ (cs : List Call) (b : List ℕ) where
   Saved u = (w : World) × Reach cs w × (number (save b) w.table ≡ 0) × Memᴰ (saving w b) u.savings
 
   pub saved : number (save b) (table_left cs) ≡ 0 → (later ds : List Call) (u : World) → Reach ds u → ds ≡ later ++ (save b ∷ cs) → Saved u
-  saved n [] ds u empty e = absurd (let z : ◌≡◌ {A = ℕ} 0 1 = cc in omega arith)
-  saved n (d ∷ later) ds u empty e = absurd (let z : ◌≡◌ {A = ℕ} 0 1 = cc in omega arith)
+  saved n [] ds u empty e = absurd (cc)
+  saved n (d ∷ later) ds u empty e = absurd (cc)
   saved n [] ds u (calling {cs = bs} {w = w} r c g p) e =
       let q : bs ≡ cs = cc in
       let k : c ≡ save b = cc in
@@ -56,7 +55,7 @@ module _ (cs : List Call) (b : List ℕ) where
       let q : bs ≡ later ++ (save b ∷ cs) = cc in
       let k : Saved w = saved n later bs w r q in
       (k.0, k.1, k.2, still _ c w.table w.pasts w.savings k.3)
-  saved n [] ds u (restoring {cs = bs} {w = w} r s m) e = absurd (let z : ◌≡◌ {A = ℕ} 0 1 = cc in omega arith)
+  saved n [] ds u (restoring {cs = bs} {w = w} r s m) e = absurd (cc)
   saved n (d ∷ later) ds u (restoring {cs = bs} {w = w} r s m) e =
       let q : bs ≡ later ++ (save b ∷ cs) = cc in
       saved n later bs w r q

@@ -1,11 +1,10 @@
 -- What the window rules say of a slot with packets, and of a close that clears. Assumes nothing.
 use Prim.Native.Nat.{ℕ, suc, ◌≤◌, ◌<◌}
-use mathlib.Core.Path.{◌≡◌, refl, subst}
-use mathlib.Core.Bool.{Bool, true, false}
+use mathlib.Core.Path.{◌≡◌, subst}
 use mathlib.Core.Logic.{◌⊎◌, inl, inr, ⊎_elim}
 use native.Mathlib.Omega.{arith}
-use lib.Dec.{eqb, leb}
-use borrow.Author.Tests.{eqb-true, eqb-false, leb-true, leb-false}
+use Rattle.std.proofs.Math.Nat.{eq-or-lt_of_le}
+use Rattle.std.proofs.lemmas.Bool.{cases_lt}
 use Rattle.rules.specs.Counts.{Counts, sum_last}
 use Rattle.rules.specs.Rules.{Kind, mismerge, excess, Enters, Entry, Exit, AnyEntry, Stands, Latest, Clears, StoodLong, Unavailable}
 
@@ -23,19 +22,17 @@ module _ (c : Counts) (n : ℕ) where
 
   -- five or more enter a kind that says so, two or more enter or leave
   pub entered : 3 ≤ n → 5 ≤ E → Entry c excess n ⊎ Entry c mismerge n
-  entered t h = go (leb 1 others) refl
-    where
-      go : (b : Bool) → leb 1 others ≡ b → Entry c excess n ⊎ Entry c mismerge n
-      go true e = inr (record { third = t; sums = (leb-true 1 others e, omega arith) })
-      go false e = inl (record { third = t; sums = (omega (arith, leb-false 1 others e), h) })
+  entered t h =
+      ⊎_elim (λ e. inr (record { third = t; sums = (e, omega arith) })) (λ e. inl (record { third = t; sums = (omega arith, h) }))
+      (cases_lt 0 others)
 
   judged : 3 ≤ n → 2 ≤ E → AnyEntry c n ⊎ Exit c n
-  judged t h = go (leb 1 others) (leb 5 E) refl refl
-    where
-      go : (b d : Bool) → leb 1 others ≡ b → leb 5 E ≡ d → AnyEntry c n ⊎ Exit c n
-      go true d e f = inl (mismerge, record { third = t; sums = (leb-true 1 others e, omega arith) })
-      go false true e f = inl (excess, record { third = t; sums = (omega (arith, leb-false 1 others e), leb-true 5 E f) })
-      go false false e f = inr (record { third = t; sums = (omega (arith, leb-false 1 others e), h, omega (arith, leb-false 5 E f)) })
+  judged t h =
+      ⊎_elim
+      (λ e. inl (mismerge, record { third = t; sums = (e, omega arith) }))
+      (λ e. ⊎_elim (λ f. inr (record { third = t; sums = (omega arith, h, omega arith) })) (λ f. inl (excess, record { third = t; sums = (omega arith, f) }))
+      (cases_lt E 5))
+      (cases_lt 0 others)
 
   pub latest_now : (k : Kind) → Entry c k n → Stands c n × Latest c k n
   latest_now k e = (
@@ -45,45 +42,30 @@ module _ (c : Counts) (n : ℕ) where
 
   -- a kind that is entered where E3 is 0 is not the latest
   pub not_latest : (k : Kind) → ((e u : ℕ) → Enters k e u → e ≡ 0) → 2 ≤ E → Stands c n → Latest c k n → ⊥
-  not_latest k z h s l = go (eqb l.start n) refl
+  not_latest k z h s l = ⊎_elim (λ e. omega (arith, z _ _ (subst (Entry c k) e l.was).sums)) since (eq-or-lt_of_le l.up_to)
     where
-      entry : AnyEntry c n → l.start < n → ⊥
-      entry q m = l.after n m (omega arith) q
-
-      exit : Exit c n → l.start < n → (b : Bool) → eqb s.start n ≡ b → ⊥
-      exit q m true e = entry (subst (AnyEntry c) (eqb-true s.start n e) s.was) m
-      exit q m false e = s.after n (omega (arith, eqb-false s.start n e, s.up_to)) (omega arith) q
-
-      go : (b : Bool) → eqb l.start n ≡ b → ⊥
-      go true e = omega (arith, z _ _ (subst (Entry c k) (eqb-true l.start n e) l.was).sums)
-      go false e =
-          let m : l.start < n = omega (arith, eqb-false l.start n e, l.up_to) in
-          ⊎_elim (λ (q : AnyEntry c n). entry q m) (λ (q : Exit c n). exit q m (eqb s.start n) refl)
+      since : l.start < n → ⊥
+      since m =
+          ⊎_elim (l.after n m (omega arith))
+          (λ q. ⊎_elim (λ e. l.after n m (omega arith) (subst (AnyEntry c) e s.was)) (λ e. s.after n e (omega arith) q) (eq-or-lt_of_le s.up_to))
           (judged (omega (arith, l.was.third)) h)
 
   -- after a close that clears, a path is available
   pub cleared : (k : ℕ) → Clears k c n → Unavailable k c n → ⊥
-  cleared k q u = go (eqb u.start n) refl
-    where
-      go : (b : Bool) → eqb u.start n ≡ b → ⊥
-      go true e = q.quiet ((subst (StoodLong k c) (eqb-true u.start n e) u.was).each n (omega arith) (omega arith))
-      go false e = u.after n (omega (arith, eqb-false u.start n e, u.up_to)) (omega arith) q
+  cleared k q u =
+      ⊎_elim (λ e. q.quiet ((subst (StoodLong k c) e u.was).each n (omega arith) (omega arith))) (λ e. u.after n e (omega arith) q)
+      (eq-or-lt_of_le u.up_to)
 
 -- with one or more, such a kind is the latest only if it was before
 module _ (c : Counts) (n : ℕ) (k : Kind) (z : (e u : ℕ) → Enters k e u → e ≡ 0) (h : 1 ≤ sum_last c.expected 3 (suc n)) (s : Stands c (suc n)) (l : Latest c k (suc n)) where
   earlier : l.start ≤ n
-  earlier = go (eqb l.start (suc n)) refl
-    where
-      go : (b : Bool) → eqb l.start (suc n) ≡ b → l.start ≤ n
-      go true e = absurd (omega (arith, z _ _ (subst (Entry c k) (eqb-true l.start (suc n) e) l.was).sums))
-      go false e = omega (arith, eqb-false l.start (suc n) e, l.up_to)
+  earlier =
+      ⊎_elim (λ e. absurd (omega (arith, z _ _ (subst (Entry c k) e l.was).sums))) (λ e. omega arith) (eq-or-lt_of_le l.up_to)
 
   stood : s.start ≤ n
-  stood = go (eqb s.start (suc n)) refl
-    where
-      go : (b : Bool) → eqb s.start (suc n) ≡ b → s.start ≤ n
-      go true e = absurd (l.after (suc n) (omega (arith, earlier)) (omega arith) (subst (AnyEntry c) (eqb-true s.start (suc n) e) s.was))
-      go false e = omega (arith, eqb-false s.start (suc n) e, s.up_to)
+  stood =
+      ⊎_elim (λ e. absurd (l.after (suc n) (omega (arith, earlier)) (omega arith) (subst (AnyEntry c) e s.was))) (λ e. omega arith)
+      (eq-or-lt_of_le s.up_to)
 
   pub was_latest : Stands c n × Latest c k n
   was_latest = (

@@ -19,12 +19,12 @@ use Rattle.lsp.proofs.Theorem.{right_path, right_closing, right_answer}
 use Rattle.table.specs.Steps.{path_at, receive_by, receive_of, close_by, close_of, write_row_by, write_row_of}
 use Rattle.table.specs.Lawful.{Lawful}
 use Rattle.table.specs.declared.paths.Table.{Table}
-use Rattle.table.specs.declared.calls.Closed.{Closed}
+use Rattle.table.specs.Outcomes.{Closed}
 use Rattle.table.proofs.Laws.{apart}
 use Rattle.history.specs.Calls.{Call, add, receive, close, server, write_fdi, write_bdi, size, save, restore, number}
 use Rattle.history.specs.Calls.{Past, nobody, past_at, World, Reach, empty, calling, restoring}
 use Rattle.history.specs.Theorem.{goes_out, RightClose, NoClose, row_by, Claim, Elsewhere, Apart, Demand3}
-use Rattle.history.proofs.Kept.{Fits, Paired, all_present, is_there, is_not_there}
+use Rattle.history.proofs.Kept.{Fits, Paired, all_there, is_there, is_not_there}
 use Rattle.history.proofs.Reached.{stays, holds, reached_lawful, reached_table}
 
 -- ---- a close of the table is the path's
@@ -78,7 +78,7 @@ added_apart false ps x j h = refl
 kept_apart : (w : World) → Lawful w.table → Paired w.table w.pasts → (c : Call) (j : ℕ) → Elsewhere c w j → Apart c w j
 kept_apart w l k (add a) j e =
     record {
-      path = apart.add w.table a.kind a.ttsi a.dl j (omega (arith, all_present w.table l));
+      path = apart.add w.table a.kind a.ttsi a.dl j (omega (arith, all_there w.table l));
       past = added_apart (eqb (number (add a) w.table) 0) w.pasts _ j (omega (arith, k.count));
     }
 kept_apart w l k (receive i p) j e = record { path = (apart.receive w.table i p).others j e; past = get_or-set_other w.pasts i j _ nobody e }
@@ -93,7 +93,7 @@ kept_apart w l k (restore im) j e = record { path = ap (λ (t : Table). path_at 
 -- ---- the calls before a call reach a world too
 
 before : (ds : List Call) (w : World) → Reach ds w → (c : Call) (cs : List Call) → ds ≡ c ∷ cs → (v : World) × Reach cs v
-before ds w empty c cs e = absurd (let z : ◌≡◌ {A = ℕ} 0 1 = cc in omega arith)
+before ds w empty c cs e = absurd (cc)
 before ds w (calling {cs = bs} {w = v} r d g p) c cs e = let q : bs ≡ cs = cc in (v, subst (λ (x : List Call). Reach x v) q r)
 before ds w (restoring {cs = bs} {w = v} r s m) c cs e = let q : bs ≡ cs = cc in (v, subst (λ (x : List Call). Reach x v) q r)
 

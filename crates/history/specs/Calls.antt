@@ -10,7 +10,7 @@ use Rattle.table.specs.Steps.{add_of, receive_of, close_of, server_of, write_row
 use Rattle.table.specs.Steps as table
 use Rattle.table.specs.declared.paths.Table.{Table}
 use Rattle.image.specs.Image.{length_of, save_of, restore_of}
-use Rattle.image.specs.declared.restoring.Restored.{Restored}
+use Rattle.image.specs.Outcomes.{Restored}
 
 -- ---- the calls
 

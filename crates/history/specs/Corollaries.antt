@@ -1,6 +1,6 @@
 -- What the theorem means to those who run the node, each in a few lines. `proofs/Corollaries.antt` proves them.
 -- Assumes nothing.
-use Rattle.std.specs.Prelude.{ℕ, suc, ◌-◌, ◌≤◌, ◌<◌, ◌≡◌, ◌⊎◌, List, ◌∷◌, ◌++◌, eqb}
+use Rattle.std.specs.Prelude.{ℕ, suc, ◌-◌, ◌≤◌, ◌<◌, ◌≡◌, ◌⊎◌, List, ◌∷◌, ◌++◌, eqb, Some}
 use Rattle.window.specs.declared.state.Defect.TheVariants.{Mismatch, Mismerge, Locv, Excess}
 use Rattle.window.specs.declared.state.Availability.TheVariants.{Available}
 use Rattle.window.specs.declared.state.Record.TheVariants.{U}
@@ -60,7 +60,7 @@ pub record Corollaries : Type 0 where
   pub flood : (cs : List Call) (w : World) (i : ℕ) → Reach cs w → Open w i → 5 ≤ arrived w i → 3 ≤ slot w i
       → ((close_of w.table i).defect ≡ Excess) ⊎ ((close_of w.table i).defect ≡ Mismerge)
   -- a path whose unavailability is handed out is in service again
-  pub in_service : (cs : List Call) (w : World) (i : ℕ) → Reach cs w → Open w i → (from until : ℕ) → (close_of w.table i).handed ≡ U from until
+  pub in_service : (cs : List Call) (w : World) (i : ℕ) → Reach cs w → Open w i → (from until : ℕ) → (close_of w.table i).handed ≡ Some (U from until)
       → InService w i from until
   -- a refused call leaves the table, every history and every saving as it was
   pub refused : (cs : List Call) (w : World) → Reach cs w → (c : Call) → (number c w.table ≡ 0 → ⊥) → next c w ≡ w

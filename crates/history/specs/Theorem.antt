@@ -9,7 +9,7 @@
 --     for a CV path (k = 1) are those of `Paper.antt`.
 --   "One path's events change no other path's history": `apart` of `Demand3`.
 -- `proofs/Theorem.antt` proves it. Assumes nothing.
-use Rattle.std.specs.Prelude.{ℕ, suc, ◌≤◌, ◌<◌, ◌≡◌, false, ◌↔◌, List, [], ◌∷◌, ◌++◌, length, replicate}
+use Rattle.std.specs.Prelude.{ℕ, suc, ◌≤◌, ◌<◌, ◌≡◌, false, ◌↔◌, List, [], ◌∷◌, ◌++◌, length, replicate, None}
 use Rattle.payload.specs.Test.{pick}
 use Rattle.payload.specs.Rates.{life_of}
 use Rattle.payload.specs.Writing.{write_of}
@@ -18,7 +18,6 @@ use Rattle.rules.specs.Claim.{RightDefect}
 use Rattle.window.specs.View.{defect_in, record_out, standing}
 use Rattle.window.specs.declared.state.Defect.{Defect}
 use Rattle.window.specs.declared.state.Defect.TheVariants.{Clear}
-use Rattle.window.specs.declared.state.Record.TheVariants.{Nothing}
 use Rattle.lsp.specs.Steps.{out_by, out_is}
 use Rattle.lsp.specs.History.{slots, server_in, last_fdi, fdi_after, limit}
 use Rattle.lsp.specs.Theorem.{exact, Path, answer_to}
@@ -26,7 +25,7 @@ use Rattle.lsp.specs.declared.close.Out.{Out}
 use Rattle.table.specs.Steps as table
 use Rattle.table.specs.Steps.{path_at, receive_of, close_of, write_row_of}
 use Rattle.table.specs.declared.paths.Table.{Table}
-use Rattle.table.specs.declared.calls.Closed.{Closed}
+use Rattle.table.specs.Outcomes.{Closed}
 use Rattle.image.specs.Image.{restore_of}
 use Rattle.history.specs.Calls.{Call, add, receive, close, server, write_fdi, write_bdi, size, save, restore, table_after, Past, past_at, World, next, Reach}
 
@@ -41,14 +40,14 @@ pub record RightClose (x : Past) (c : Closed) : Type 0 where
   pub number : c.number ≡ 0
   pub defect : RightDefect (exact x.history) (suc (slots x.history)) (defect_in c.defect)
   pub cv : x.added.kind ≡ 0 → (r : Record) → (c.handed ≡ record_out r) ↔ HandsOut 1 (exact x.history) (suc (slots x.history)) r
-  pub ffd : (x.added.kind ≡ 0 → ⊥) → c.handed ≡ Nothing
+  pub ffd : (x.added.kind ≡ 0 → ⊥) → c.handed ≡ None
   pub out : c.out ≡ goes_out x (suc (slots x.history)) c.defect
 
 -- a refusal carries its number, all else zero
 pub record NoClose (n : ℕ) (c : Closed) : Type 0 where
   pub number : c.number ≡ n
   pub defect : c.defect ≡ Clear
-  pub handed : c.handed ≡ Nothing
+  pub handed : c.handed ≡ None
   pub out : c.out ≡ out_is 0 0 false false
 
 -- FDI or BDI, by the kind that stands and what goes out; 13 where none stands

@@ -2,74 +2,56 @@
 use mathlib.Core.Path.{◌≡◌, refl, sym, ap, ap₂, ◌∙◌}
 use mathlib.Core.Bool.{Bool, true, false}
 use mathlib.Core.List.{List, ◌∷◌, ◌++◌, append_assoc}
-use Prim.Native.Nat.{ℕ, suc, ◌+◌, ◌*◌, ◌-◌, ◌≤◌, ◌<◌}
-use native.Mathlib.Nat.{sub-zero}
+use Prim.Native.Nat.{ℕ, zero, suc, ◌+◌, ◌*◌, ◌/◌, ◌-◌, ◌≤◌, ◌<◌}
 use native.Mathlib.Numerals.{add-one}
 use native.Mathlib.Omega.{arith}
 use lib.Dec.{leb}
 use lib.ListN.{length, take, drop, set, length-take, length-drop}
-use lib.Seq.{drop-drop, take-suc-set, take_at}
+use lib.Seq.{take-suc-set, take_at}
 use borrow.Author.Tests.{le-leb, lt-leb, leb-true}
 use borrow.Rule.Slice.PartMut.{mid_of, put_mid}
+use Rattle.std.specs.Prelude.{◌||◌}
+use Rattle.std.specs.List.{list_any}
+use Rattle.std.specs.Simd.{first_chunks}
+use Rattle.refusal.specs.Numbers.{number_of}
+use Rattle.refusal.specs.declared.Refusal.{Refusal}
 use Rattle.payload.specs.Law.{Octets}
 use Rattle.payload.specs.Test.{both, either}
 use Rattle.payload.specs.Rates.{is_kind}
 use Rattle.payload.specs.Layout.{is_ttsi}
 use Rattle.payload.proofs.Tests.{both_false}
-use Rattle.octets.specs.Parts.{laid}
+use Rattle.octets.specs.Parts.{part, laid}
 use Rattle.octets.proofs.Parts.{put_laid}
 use Rattle.lsp.specs.Steps.{new_of, same}
 use Rattle.lsp.specs.declared.path.Lsp.{Lsp}
-use Rattle.field.specs.Field.{field_of, path_of, write_of}
+use Rattle.field.specs.Field.{field_of, write_of}
 use Rattle.table.specs.Steps as table
 use Rattle.table.specs.Steps.{present, expected_in, any_expects, add_by, not_added}
+use Rattle.table.specs.Outcomes.{Added}
 use Rattle.table.specs.declared.paths.Table.{Table}
-use Rattle.table.specs.declared.add.Added.{Added}
 use Rattle.image.specs.Image.{fields_of, octets_of, image_length, length_of, save_by, image_in, count_in, paths_of, table_of}
-use Rattle.image.proofs.Turns.{cell}
-use Rattle.host.specs.Calls.{table_in, saved_in, add_step, add_of, opened_of}
 use Rattle.image.proofs.Answers.{whole}
 use Rattle.image.proofs.Law.{all_present}
-use Rattle.image.proofs.Octets.{drop-take, ttsi_first, ttsi_read}
-use Rattle.image.proofs.Seen.{ttsi_found}
-use Rattle.image.proofs.Turns.{fields_snoc}
+use Rattle.image.proofs.Octets.{drop-take, ttsi_read}
+use Rattle.image.proofs.Turns.{cell, fields_snoc}
 use Rattle.image.proofs.Walk.{length-paths}
-use Rattle.host.proofs.Called.{Open, not_open, goes_on, refuses}
+use Rattle.host.specs.Calls.{table_in, saved_in, add_step, add_of, opened_of}
+use Rattle.host.proofs.Called.{Open, open_is, fits, not_open, goes_on, leaves}
 use Rattle.host.proofs.InPlace.{table_is, present_in, count_in_lem, lawful}
 
--- ---- one turn of the search
+-- ---- the search
 
-module _ (s : List ℕ) (n : ℕ) (t : List ℕ) where
-  abbrev pub ahead : ℕ → Bool
-  ahead i = expected_in (paths_of (n - i) (drop (79 * i) s)) t
+either_is : (a b : Bool) → either a b ≡ (a || b)
+either_is true b = refl
+either_is false b = refl
 
-  pub ahead_start : ahead 0 ≡ expected_in (paths_of n s) t
-  ahead_start = rw sub-zero
-
-  module _ (i : ℕ) (inv : ahead i ≡ expected_in (paths_of n s) t) where
-    turn : i < n → ahead i ≡ either (same t (path_of (take 79 (drop (79 * i) s))).ttsi) (ahead (i + 1))
-    unfolding expected_in paths_of
-    turn h =
-        let e : n - i ≡ suc (n - (i + 1)) = omega arith in
-        let d : 79 * i + 79 ≡ 79 * (i + 1) = omega arith in
-        rw (e, drop-drop, d)
-
-    module _ (h : i < n) (m : 79 * n ≤ length s) (b : Bool) (p : b ≡ same t (take (79 * i + 4 + 20 - (79 * i + 4)) (drop (79 * i + 4) s))) where
-      is : same t (path_of (take 79 (drop (79 * i) s))).ttsi ≡ b
-      is =
-          let f = take 79 (drop (79 * i) s) in
-          let w : length f ≡ 79 = simp (length-take, length-drop) (omega arith) in
-          ap (same t) (ttsi_read f w ∙ ttsi_first (drop (79 * i) s) ∙ sym (ttsi_found s i)) ∙ sym p
-
-      pub found : b ≡ true → true ≡ expected_in (paths_of n s) t
-      found e = sym (turn h ∙ ap (λ (x : Bool). either x (ahead (i + 1))) (is ∙ e)) ∙ inv
-
-      pub passed : b ≡ false → ahead (i + 1) ≡ expected_in (paths_of n s) t
-      passed e = sym (turn h ∙ ap (λ (x : Bool). either x (ahead (i + 1))) (is ∙ e)) ∙ inv
-
-    pub none_left : n ≤ i → false ≡ expected_in (paths_of n s) t
-    unfolding expected_in paths_of
-    none_left h = let z : n - i ≡ 0 = omega arith in rw z at inv
+pub records_expect : (n : ℕ) (s t : List ℕ) → 79 * n ≤ length s → list_any (λ f. same t (part f 4 20)) (first_chunks 79 n s) ≡ expected_in (paths_of n s) t
+unfolding expected_in paths_of
+records_expect zero s t h = refl
+records_expect (suc n) s t h =
+    let w : length (take 79 s) ≡ 79 = simp length-take (omega arith) in
+    sym (either_is (same t (part (take 79 s) 4 20)) _)
+    ∙ ap₂ either (ap (same t) (sym (ttsi_read (take 79 s) w))) (records_expect n (drop 79 s) t (simp length-drop (omega arith)))
 
 -- ---- the call
 
@@ -77,11 +59,14 @@ abbrev grown_of : Table → Lsp → Table
 grown_of t l = record { count = t.count + 1; lsps = set t.lsps t.count l }
 
 module _ (s : List ℕ) (kind : ℕ) (ttsi : List ℕ) (dl : ℕ) where
-  pub add_ends : (n : ℕ) → n ≡ opened_of s → (n ≡ 0 → ⊥) → (n, s) ≡ add_of s kind ttsi dl
+  pub add_ends : (r : Refusal) → number_of r ≡ opened_of s → (number_of r, s) ≡ add_of s kind ttsi dl
   unfolding add_of
-  add_ends n e z = not_open s (add_step kind ttsi dl) n e z
+  add_ends = not_open s (add_step kind ttsi dl)
 
-  module _ (w : Open s) (o : Octets s) where
+  module _ (z : 0 ≡ opened_of s) where
+    w : Open s
+    w = open_is s z
+
     abbrev t : Table
     t = table_in s
 
@@ -91,17 +76,17 @@ module _ (s : List ℕ) (kind : ℕ) (ttsi : List ℕ) (dl : ℕ) where
     add_by_lem given expected full p q r =
         sym (ap₂ (λ (x y : Bool). add_by x y (leb 64 t.count) t (new_of kind ttsi dl)) p q ∙ ap (λ (z : Bool). add_by given expected z t (new_of kind ttsi dl)) r)
 
-    refused : (n : ℕ) → not_added n t ≡ table.add_of t kind ttsi dl → (n, s) ≡ add_of s kind ttsi dl
+    refused : Octets s → (n : ℕ) → not_added n t ≡ table.add_of t kind ttsi dl → (n, s) ≡ add_of s kind ttsi dl
     unfolding add_of
-    refused n e = refuses s w o (add_step kind ttsi dl) n (ap (λ (a : Added). (a.number, a.next)) (sym e))
+    refused o n e = leaves s w (add_step kind ttsi dl) o n (ap (λ (a : Added). (a.number, a.next)) (sym e))
 
-    pub bad_kind : is_kind kind ≡ false → (12, s) ≡ add_of s kind ttsi dl
-    bad_kind e = refused 12 (add_by_lem false _ _ (ap (λ (b : Bool). both b (is_ttsi ttsi)) e) refl refl)
+    pub bad_kind : Octets s → is_kind kind ≡ false → (12, s) ≡ add_of s kind ttsi dl
+    bad_kind o e = refused o 12 (add_by_lem false _ _ (ap (λ (b : Bool). both b (is_ttsi ttsi)) e) refl refl)
 
-    pub bad_ttsi : is_ttsi ttsi ≡ false → (12, s) ≡ add_of s kind ttsi dl
-    bad_ttsi e = refused 12 (add_by_lem false _ _ (ap (both (is_kind kind)) e ∙ both_false (is_kind kind)) refl refl)
+    pub bad_ttsi : Octets s → is_ttsi ttsi ≡ false → (12, s) ≡ add_of s kind ttsi dl
+    bad_ttsi o e = refused o 12 (add_by_lem false _ _ (ap (both (is_kind kind)) e ∙ both_false (is_kind kind)) refl refl)
 
-    -- the paths that lie in the fields
+    -- the paths that lie in the records
     used : take (present t) t.lsps ≡ paths_of (count_in s) (take (image_length (count_in s) - 5) (drop 5 s))
     used =
         let n = count_in s in
@@ -113,11 +98,11 @@ module _ (s : List ℕ) (kind : ℕ) (ttsi : List ℕ) (dl : ℕ) where
         ∙ take_at (paths_of (table_of (image_in s)).count x) _ (table_of (image_in s)).count (length-paths (table_of (image_in s)).count x)
         ∙ ap₂ paths_of c d
 
-    -- the table with one path more, saved where the fields end
-    grown : (l : Lsp) → count_in s < 64 → length (field_of l) ≡ 79
+    -- the table with one path more, saved where the records end
+    grown : Octets s → (l : Lsp) → count_in s < 64 → length (field_of l) ≡ 79
         → set (laid s (image_length (count_in s)) (field_of l)) 4 (count_in s + 1) ≡ saved_in (grown_of t l) s
     unfolding octets_of
-    grown l k z =
+    grown o l k z =
         let c = count_in s in
         let a = image_length c in
         let f = field_of l in
@@ -139,31 +124,40 @@ module _ (s : List ℕ) (kind : ℕ) (ttsi : List ℕ) (dl : ℕ) where
         ∙ ap (λ (x : ℕ). 0x01 ∷ 0 ∷ 2 ∷ 0x01 ∷ x ∷ (fields_of (take x (set t.lsps t.count l)) ++ drop (image_length x) s)) (sym p)
         ∙ sym (ap (λ (b : Bool). (save_by b (grown_of t l) s).1) long)
 
-    module _ (g : is_kind kind ≡ true) (h : is_ttsi ttsi ≡ true) (b : Bool)
-        (e : b ≡ expected_in (paths_of (count_in s) (take (image_length (count_in s) - 5) (drop 5 s))) ttsi) where
+    -- n is the count, and b what the search answers
+    module _ (o : Octets s) (g : is_kind kind ≡ true) (h : is_ttsi ttsi ≡ true) (n : ℕ) (c : n ≡ count_in s) (b : Bool)
+        (e : b ≡ (let records = take (5 + 79 * n - 5) (drop 5 s) in list_any (λ f. same ttsi (part f 4 20)) (first_chunks 79 (length records / 79) records))) where
       expects : any_expects t ttsi ≡ b
-      expects = ap (λ (ls : List Lsp). expected_in ls ttsi) used ∙ sym e
+      expects =
+          let m : length (take (image_length (count_in s) - 5) (drop 5 s)) / 79 ≡ count_in s = simp (length-take, length-drop) (omega (arith, (fits s w).0)) in
+          ap (λ (ls : List Lsp). expected_in ls ttsi) used
+          ∙ sym (records_expect (count_in s) (take (image_length (count_in s) - 5) (drop 5 s)) ttsi (simp (length-take, length-drop) (omega (arith, (fits s w).0))))
+          ∙ ap (λ (k : ℕ). list_any (λ f. same ttsi (part f 4 20)) (first_chunks 79 k (take (image_length (count_in s) - 5) (drop 5 s)))) (sym m)
+          ∙ sym (rw c at e)
 
       pub expected : b ≡ true → (8, s) ≡ add_of s kind ttsi dl
-      expected y = refused 8 (add_by_lem true true _ (ap₂ both g h) (expects ∙ y) refl)
+      expected y = refused o 8 (add_by_lem true true _ (ap₂ both g h) (expects ∙ y) refl)
 
-      pub full : b ≡ false → 64 ≤ count_in s → (7, s) ≡ add_of s kind ttsi dl
-      full y k = refused 7 (add_by_lem true false true (ap₂ both g h) (expects ∙ y) (le-leb 64 t.count (omega (arith, count_in_lem s w.image))))
+      pub full : b ≡ false → 64 ≤ n → (7, s) ≡ add_of s kind ttsi dl
+      full y k = refused o 7 (add_by_lem true false true (ap₂ both g h) (expects ∙ y) (le-leb 64 t.count (omega (arith, count_in_lem s w.image))))
 
-      pub added : b ≡ false → count_in s < 64 → (l : Lsp) (r : ℕ) (m : List ℕ) → l ≡ new_of kind ttsi dl
-          → (r, m) ≡ write_of l (mid_of (image_length (count_in s)) (image_length (count_in s) + 79 - image_length (count_in s)) s)
-          → length m ≡ length (mid_of (image_length (count_in s)) (image_length (count_in s) + 79 - image_length (count_in s)) s)
-          → (0, set (put_mid (image_length (count_in s)) (image_length (count_in s) + 79 - image_length (count_in s)) s m) 4 (count_in s + 1)) ≡ add_of s kind ttsi dl
+      pub added : b ≡ false → n < 64 → (l : Lsp) (r : ℕ) (m : List ℕ) → l ≡ new_of kind ttsi dl
+          → (r, m) ≡ write_of l (mid_of (image_length n) (image_length n + 79 - image_length n) s)
+          → length m ≡ length (mid_of (image_length n) (image_length n + 79 - image_length n) s)
+          → (0, set (put_mid (image_length n) (image_length n + 79 - image_length n) s m) 4 (n + 1)) ≡ add_of s kind ttsi dl
       unfolding add_of
-      added y k l r m q p n =
-          let a = image_length (count_in s) in
-          let v : length (mid_of a (a + 79 - a) s) ≡ 79 = simp (cell, length-take, length-drop) (omega (arith, leb-true 5061 (length s) w.long)) in
-          let f : m ≡ field_of l = whole l (mid_of a (a + 79 - a) s) m r v p in
-          let z : length (field_of l) ≡ 79 = ap length (sym f) ∙ n ∙ v in
+      added y k l r m q p v =
+          let a = image_length n in
+          let j : length (mid_of a (a + 79 - a) s) ≡ 79 = simp (cell, length-take, length-drop) (omega (arith, leb-true 5061 (length s) w.long)) in
+          let f : m ≡ field_of l = whole l (mid_of a (a + 79 - a) s) m r j p in
+          let z : length (field_of l) ≡ 79 = ap length (sym f) ∙ v ∙ j in
           let step = add_by_lem true false false (ap₂ both g h) (expects ∙ y) (lt-leb 64 t.count (omega (arith, count_in_lem s w.image))) in
-          ap (λ (x : List ℕ). (0, set (put_mid a (a + 79 - a) s x) 4 (count_in s + 1))) f
-          ∙ ap (λ (x : List ℕ). (0, set x 4 (count_in s + 1))) (put_laid s (field_of l) a (a + 79 - a) (cell a ∙ sym z))
-          ∙ ap (λ (x : List ℕ). (0, x)) (grown l k z)
+          ap (λ (x : List ℕ). (0, set (put_mid a (a + 79 - a) s x) 4 (n + 1))) f
+          ∙ ap (λ (x : List ℕ). (0, set x 4 (n + 1))) (put_laid s (field_of l) a (a + 79 - a) (cell a ∙ sym z))
+          ∙ ap (λ (k : ℕ). (0, set (laid s (image_length k) (field_of l)) 4 (k + 1))) c
+          ∙ ap (λ (x : List ℕ). (0, x)) (grown o l (omega arith) z)
           ∙ ap (λ (x : Lsp). (0, saved_in (grown_of t x) s)) q
           ∙ ap (λ (x : Added). (x.number, saved_in x.next s)) step
           ∙ sym (goes_on s w (add_step kind ttsi dl))
+
+pub ruleset add_refusals = (add_ends, bad_kind, bad_ttsi)

@@ -14,7 +14,7 @@ use Rattle.table.specs.Lawful.{Lawful}
 use Rattle.table.specs.declared.paths.Table.{Table}
 use Rattle.image.specs.Image.{octets_of, length_of, save_by, save_of, image_in, restore_of, restored}
 use Rattle.image.specs.Law.{Made, none}
-use Rattle.image.specs.declared.restoring.Restored.{Restored}
+use Rattle.image.specs.Outcomes.{Restored}
 use Rattle.image.proofs.Law.{image_law, all_present}
 use Rattle.image.proofs.Made.{made_comes_back}
 use Rattle.host.specs.Calls.{is_long, held_in, is_held, table_in, saved_in, empty_by, empty_of, add_step, add_of, receive_step, receive_of, server_step, server_on, write_row_by, write_row_of, answered_by, close_by, close_of}

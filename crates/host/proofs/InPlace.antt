@@ -21,7 +21,7 @@ use Rattle.table.specs.Lawful.{Lawful}
 use Rattle.table.specs.declared.paths.Table.{Table}
 use Rattle.image.specs.Image.{fields_of, octets_of, image_length, length_of, save_by, is_image, image_in, count_in, paths_of, table_of, restored}
 use Rattle.image.specs.Law.{Typed}
-use Rattle.image.specs.declared.restoring.Restored.{Restored}
+use Rattle.image.specs.Outcomes.{Restored}
 use Rattle.image.proofs.Law.{image_law, all_present}
 use Rattle.image.proofs.Octets.{drop-take}
 use Rattle.image.proofs.Answers.{whole}

@@ -1,9 +1,9 @@
 pub mod InPlace
 pub mod Called
-pub mod Steps
+pub mod Stepped
 pub mod Rows
-pub mod Answers
 pub mod Closes
+pub mod Empty
 pub mod Adds
 pub mod Promises
 pub mod Held

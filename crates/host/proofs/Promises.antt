@@ -13,4 +13,6 @@ one_outcome =
       write_fdi = λ s i b. one _;
       write_bdi = λ s i b. one _;
       write = λ ty t r dt dl b. one _;
+      number = λ r. one _;
+      number_read = λ r. one _;
     }

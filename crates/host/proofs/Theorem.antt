@@ -6,9 +6,10 @@ use mathlib.Core.List.Memᴰ
 use mathlib.Core.List.{List, [], ◌∷◌, ◌++◌, Memᴰ}
 use Prim.Native.Nat.{ℕ, ◌≤◌, ◌<◌}
 use native.Mathlib.Omega.{arith}
-use lib.Dec.{eqb, leb}
+use lib.Dec.{eqb}
 use lib.ListN.{length}
-use borrow.Author.Tests.{eqb-false, leb-true, leb-false}
+use borrow.Author.Tests.{eqb-false}
+use Rattle.std.proofs.lemmas.Bool.{cases_lt}
 use Rattle.payload.specs.Test.{pick}
 use Rattle.table.specs.Steps as table
 use Rattle.table.specs.Steps.{path_at}
@@ -144,11 +145,7 @@ module _ (b : List ℕ) (h : 5061 ≤ length b) where
     room_or : (c : CCall) → Room c ⊎ (after c v ≡ v)
     room_or (add kind ttsi dl) = inl tt
     room_or (receive i p) = inl tt
-    room_or (close i a) = go (leb 27 (length a)) refl
-      where
-        go : (x : Bool) → leb 27 (length a) ≡ x → Room (close i a) ⊎ (after (close i a) v ≡ v)
-        go true q = inl (leb-true 27 (length a) q)
-        go false q = inr (stays i a (leb-false 27 (length a) q))
+    room_or (close i a) = ⊎_elim (λ k. inr (stays i a k)) (λ k. inl k) (cases_lt (length a) 27)
     room_or (server i x) = inl tt
     room_or (write_fdi i x) = inl tt
     room_or (write_bdi i x) = inl tt

@@ -1,6 +1,6 @@
 -- What each call of C answers and leaves: as restoring, the table's call, and saving.
 -- Assumes nothing.
-use Rattle.std.specs.Prelude.{Bool, true, false, List, [], ◌∷◌, ◌++◌, ℕ, eqb, leb, ltb, length, drop}
+use Rattle.std.specs.Prelude.{Bool, true, false, Option, List, [], ◌∷◌, ◌++◌, ℕ, eqb, leb, ltb, length, drop}
 use Rattle.payload.specs.Test.{both}
 use Rattle.octets.specs.Number.{octets}
 use Rattle.octets.specs.Parts.{joined}
@@ -8,12 +8,12 @@ use Rattle.window.specs.View.{code_of, record_of}
 use Rattle.field.specs.Field.{server_of}
 use Rattle.table.specs.Steps as table
 use Rattle.table.specs.declared.paths.Table.{Table}
-use Rattle.table.specs.declared.calls.Closed.{Closed}
+use Rattle.table.specs.Outcomes.{Closed}
 use Rattle.window.specs.declared.state.Defect.{Defect}
 use Rattle.window.specs.declared.state.Record.{Record}
 use Rattle.lsp.specs.declared.close.Out.{Out}
 use Rattle.image.specs.Image.{save_of, restore_of, image_in}
-use Rattle.image.specs.declared.restoring.Restored.{Restored}
+use Rattle.image.specs.Outcomes.{Restored}
 
 -- ---- the buffer: 11 where it is under 5,061 octets, then 10 where it begins with no image
 
@@ -105,11 +105,11 @@ abbrev pub out_parts : Out → List (List ℕ)
 out_parts o = octets 2 o.dt ∷ octets 4 o.dl ∷ octets 1 (server_of o.alarm) ∷ octets 1 (server_of o.suppression) ∷ []
 
 -- record 0 none, 1 U, 2 B; from; until
-abbrev pub record_parts : Record → List (List ℕ)
+abbrev pub record_parts : Option Record → List (List ℕ)
 record_parts r = octets 1 (record_of r).0 ∷ octets 8 (record_of r).1.0 ∷ octets 8 (record_of r).1.1 ∷ []
 
 -- the kind's code first
-abbrev pub answer_parts : Defect → Out → Record → List (List ℕ)
+abbrev pub answer_parts : Defect → Out → Option Record → List (List ℕ)
 answer_parts d o r = (octets 2 (code_of d) ∷ []) ++ out_parts o ++ record_parts r
 
 unfoldable pub answer_octets : Closed → List ℕ

@@ -1,65 +1,56 @@
 // A path more, in its place behind the last.
-ghost use Rattle.std.specs.Prelude.{◌≡◌, ◌*◌, ◌≤◌, length};
-ghost use Rattle.lsp.specs.Steps.{new_of};
-ghost use Rattle.table.specs.Steps.{expected_in};
-ghost use Rattle.image.specs.Image.{paths_of};
+ghost use Rattle.std.specs.Prelude.{◌≡◌, ◌/◌, length};
+ghost use Rattle.std.specs.List.{list_any};
+ghost use Rattle.std.specs.Simd.{first_chunks};
+ghost use Rattle.octets.specs.Parts.{part};
+ghost use Rattle.refusal.specs.Numbers.{number_in};
+ghost use Rattle.lsp.specs.Steps.{new_of, same};
 ghost use Rattle.host.specs.Calls.{add_of};
 
-use crate::record::opened;
+use crate::record::{COUNT, FIELD, HEAD, opened};
 use lsp::Lsp;
 use payload::{Kind, is_ttsi};
+use refusal::Refusal;
 
-// Whether one of n fields expects the TTSI.
-fn expected_in(fields: &[u8], n: usize, ttsi: &[u8]) -> bool
-    requires { (n ≤ 64) × (length fields.now ≡ 79 * n) }
-    ensures { result ≡ expected_in (paths_of n fields.now) ttsi.now }
+// Whether one of the records expects the TTSI.
+fn expected_in(records: &[u8], ttsi: &[u8]) -> bool
+    ensures { result ≡ list_any (λ f. same ttsi.now (part f 4 20))
+        (first_chunks 79 (length records.now / 79) records.now) }
 {
-    let mut i = 0;
-    while i < n {
-        let a = 79 * i + 4;
-        let e = a + 20;
-        if image::same_octets(ttsi, &fields[a..e]) {
-            return true;
-        }
-        i += 1;
-    }
-    false
+    let (records, _) = records.as_chunks::<FIELD>();
+    records
+        .iter()
+        .any(|record| image::same_octets(ttsi, &record[4..24]))
 }
 
 fn path(kind: u8, ttsi: &[u8], dl: u32) -> Lsp
     requires { length ttsi.now ≡ 20 }
     ensures { result ≡ new_of kind ttsi.now dl }
 {
-    let mut own = [0u8; 20];
-    octets::copy(ttsi, &mut own);
+    let mut own = [0; 20];
+    own.copy_from_slice(ttsi);
     Lsp::new(kind, own, dl)
 }
 
-// A path of the kind, with the expected TTSI and the local DL: 11, 10, 12, 8, 7, or 0. Its number is the count before it.
-#[unsafe(no_mangle)]
-pub extern "C" fn pw_add(image: &mut [u8], kind: u8, ttsi: &[u8], dl: u32) -> u8
-    ensures { (result, image.new) ≡ add_of image.old kind ttsi.now dl }
+// Paths of a table, at most.
+const MOST: u8 = 64;
+
+#[tactic(auto, using(crate::proofs::Adds::add_refusals))]
+pub(crate) fn add(image: &mut [u8], kind: u8, ttsi: &[u8], dl: u32) -> Result<(), Refusal>
+    ensures { (number_in result, image.new) ≡ add_of image.old kind ttsi.now dl }
 {
-    let number = opened(image);
-    if number != 0 {
-        return number;
+    let count = opened(image)?;
+    if !Kind::is_kind(kind) || !is_ttsi(ttsi) {
+        return Err(Refusal::Value);
     }
-    if !Kind::is_kind(kind) {
-        return 12;
+    let end = HEAD + FIELD * usize::from(count);
+    if expected_in(&image[HEAD..end], ttsi) {
+        return Err(Refusal::Taken);
     }
-    if !is_ttsi(ttsi) {
-        return 12;
+    if MOST <= count {
+        return Err(Refusal::Full);
     }
-    let n = image[4] as usize;
-    let e = 5 + 79 * n;
-    if expected_in(&image[5..e], n, ttsi) {
-        return 8;
-    }
-    if 64 <= n {
-        return 7;
-    }
-    let f = e + 79;
-    field::write(&mut image[e..f], path(kind, ttsi, dl));
-    image[4] = (n + 1) as u8;
-    0
+    field::write(&mut image[end..end + FIELD], path(kind, ttsi, dl)).unwrap();
+    image[COUNT] = count + 1;
+    Ok(())
 }

@@ -18,7 +18,7 @@ use Rattle.lsp.proofs.Answers.{Each, each, every}
 use Rattle.table.specs.Steps.{blank, present}
 use Rattle.table.specs.Lawful.{Lawful}
 use Rattle.table.specs.declared.paths.Table.{Table}
-use Rattle.image.specs.declared.restoring.Restored.{Restored}
+use Rattle.image.specs.Outcomes.{Restored}
 use Rattle.image.specs.Image.{fields_of, octets_of, image_length, length_of, save_by, save_of, are_fields, count_in, image_tests, is_image, paths_of, table_of, restored, restore_by, restore_of}
 use Rattle.image.specs.Law.{Typed, ImageLaw}
 use Rattle.image.proofs.Walk.{Good, length-paths, length_fields, fields_back, fields_forth}

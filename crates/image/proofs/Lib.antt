@@ -4,7 +4,8 @@ pub mod Places
 pub mod Law
 pub mod Typed
 pub mod Made
-pub mod Seen
+pub mod Chunks
+pub mod Compared
 pub mod Turns
 pub mod Prefix
 pub mod Marked

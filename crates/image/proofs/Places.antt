@@ -37,7 +37,7 @@ absent_apart k [] e i h q = absurd (omega arith)
 absent_apart k (x ∷ seen) e zero h q = never (sym (other_one (same k x) (absent k seen) e).0 ∙ ap (same k) q ∙ same_self k)
 absent_apart k (x ∷ seen) e (suc i) h q = absent_apart k seen (other_one (same k x) (absent k seen) e).1 i (omega arith) q
 
-apart_same : (k x : List ℕ) → (x ≡ k → ⊥) → same k x ≡ false
+pub apart_same : (k x : List ℕ) → (x ≡ k → ⊥) → same k x ≡ false
 apart_same k x h = go (same k x) refl
   where
     go : (b : Bool) → same k x ≡ b → b ≡ false

@@ -14,7 +14,7 @@ use Rattle.payload.specs.Layout.{cv, ffd, fdi, bdi, is_type, is_ttsi, valid}
 use Rattle.payload.specs.Law.{Octets}
 use Rattle.payload.specs.Reading.{Answer, refusal, shown, word_at, long_at, fields_at, clear, bip_right, read_of, accepts, ttsi_at}
 use Rattle.window.specs.View.{turned_of}
-use Rattle.window.specs.declared.close.Turned.{Turned}
+use Rattle.window.specs.Outcomes.{Turned}
 use Rattle.lsp.specs.Steps as path
 use Rattle.lsp.specs.Steps.{gone, new_of, same, counted_by, taken_by, faded_of, is_cv, closed_of}
 use Rattle.lsp.specs.declared.path.Fdi.{Fdi}

@@ -9,7 +9,7 @@ use Rattle.lsp.specs.declared.path.Lsp.{Lsp}
 use Rattle.field.specs.Field.{field_of, path_of, is_field, ttsi_in}
 use Rattle.table.specs.Steps.{blank, empty, present}
 use Rattle.table.specs.declared.paths.Table.{Table}
-use Rattle.image.specs.declared.restoring.Restored.{Restored}
+use Rattle.image.specs.Outcomes.{Restored}
 
 -- ---- the octets of a table
 
@@ -38,14 +38,6 @@ abbrev pub save_of : Table → List ℕ → ℕ × List ℕ
 save_of t b = save_by (leb (length_of t) (length b)) t b
 
 -- ---- which octets are an image
-
--- the TTSI of field i, and those of the fields before it
-abbrev pub ttsi_at : ℕ → List ℕ → List ℕ
-ttsi_at i s = ttsi_in (drop (79 * i) s)
-
-unfoldable pub ttsis_of : ℕ → List ℕ → List (List ℕ)
-ttsis_of zero s = []
-ttsis_of (suc i) s = ttsis_of i s ++ (ttsi_at i s ∷ [])
 
 -- a TTSI is none of those seen
 unfoldable pub absent : List ℕ → List (List ℕ) → Bool
@@ -105,7 +97,16 @@ restore_of im = restore_by (is_image im) (table_of im)
 abbrev pub image_in : List ℕ → List ℕ
 image_in s = take (image_length (count_in s)) s
 
--- ---- how the code tells TTSIs apart
+-- ---- how the code tests heads and fields, and tells TTSIs apart
+
+-- the head of n paths
+abbrev pub head_of : ℕ → List ℕ
+head_of n = 0x01 ∷ 0 ∷ 2 ∷ 0x01 ∷ n ∷ []
+
+-- fields whose TTSIs differ from each other and from those seen
+unfoldable pub all_fields : List (List ℕ) → List (List ℕ) → Bool
+all_fields seen [] = true
+all_fields seen (f ∷ fs) = both (is_field f) (both (absent (ttsi_in f) seen) (all_fields (seen ++ (ttsi_in f ∷ [])) fs))
 
 -- equal TTSIs have the same mark
 abbrev pub mark_of : List ℕ → ℕ

@@ -1,3 +1,4 @@
+pub mod Outcomes
 pub mod Image
 pub mod Law
 pub mod Promises

@@ -1,83 +1,57 @@
 // The fields of a table, one after the other.
-ghost use Rattle.std.specs.Prelude.{◌≡◌, ◌+◌, ◌*◌, ◌≤◌, ◌<◌, [], length, take};
-ghost use Rattle.image.specs.Image.{absent, ttsi_at, ttsis_of, are_fields, placed, fields_of};
+ghost use Rattle.std.specs.Prelude.{◌≡◌, ◌++◌, ◌+◌, ◌-◌, ◌*◌, ◌≤◌, [], length, replicate, map, drop};
+ghost use Rattle.std.specs.List.{list_any};
+ghost use Rattle.lsp.specs.Steps.{same};
+ghost use Rattle.field.specs.Field.{path_of, ttsi_in};
+ghost use Rattle.table.specs.Steps.{blank};
+ghost use Rattle.image.specs.Image.{all_fields};
 
+use crate::Field;
 use crate::marks::{mark, same_octets};
 use lsp::Lsp;
 
-// Whether the TTSI of field i is none of those before it.
-fn is_new(s: &[u8], i: usize) -> bool
-    requires { (i < 64) × (79 * i + 79 ≤ length s.now) }
-    ensures { result ≡ absent (ttsi_at i s.now) (ttsis_of i s.now) }
+fn ttsi(field: &Field) -> &[u8]
+    ensures { result.now ≡ ttsi_in field.now }
 {
-    let a = 79 * i + 4;
-    let e = a + 20;
-    let mut j = 0;
-    while j < i {
-        let b = 79 * j + 4;
-        let f = b + 20;
-        if same_octets(&s[a..e], &s[b..f]) {
-            return false;
-        }
-        j += 1;
-    }
-    true
+    &field[4..24]
 }
 
-// Whether the octets are n fields whose TTSIs differ.
-pub(crate) fn are_fields(s: &[u8], n: usize) -> bool
-    requires { (n ≤ 64) × (length s.now ≡ 79 * n) }
-    ensures { result ≡ are_fields [] n s.now }
+// Whether the TTSI is that of one of the fields.
+fn is_seen(fields: &[Field], t: &[u8]) -> bool
+    ensures { result ≡ list_any (λ f. same t.now (ttsi_in f)) fields.now }
+{
+    fields.iter().any(|f| same_octets(t, ttsi(f)))
+}
+
+// Whether they are fields whose TTSIs differ.
+#[tactic(auto, using(crate::proofs::Chunks::no_field, crate::proofs::Chunks::fields_end))]
+pub(crate) fn are_fields(fields: &[Field]) -> bool
+    ensures { result ≡ all_fields [] fields.now }
 {
     let mut marks = [false; 512];
-    let mut i = 0;
-    while i < n {
-        let a = 79 * i;
-        let e = a + 79;
-        if !field::is_field(&s[a..e]) {
+    for (i, f) in fields.iter().enumerate() {
+        if !field::is_field(f) {
             return false;
         }
-        let t = a + 4;
-        let u = t + 20;
-        let m = mark(&s[t..u]);
-        if marks[m] {
-            if !is_new(s, i) {
-                return false;
-            }
+        let m = mark(f);
+        if marks[m] && is_seen(&fields[..i], ttsi(f)) {
+            return false;
         }
         marks[m] = true;
-        i += 1;
     }
     true
 }
 
-// n paths, and the places past them as in an empty table.
-pub(crate) fn read_fields(s: &[u8], n: usize) -> [Lsp; 64]
-    requires { (n ≤ 64) × (length s.now ≡ 79 * n) }
-    ensures { result ≡ placed n s.now }
+// Their paths, and the places past them as in an empty table.
+#[tactic(auto, using(crate::proofs::Chunks::placed_next))]
+pub(crate) fn paths_of(fields: &[Field]) -> [Lsp; 64]
+    requires { length fields.now ≤ 64 }
+    ensures { result ≡ map path_of fields.now ++ replicate (64 - length fields.now) blank }
 {
     let blank = Lsp::new(0, [0; 20], 0);
     let mut lsps = [blank; 64];
-    let mut i = 0;
-    while i < n {
-        let a = 79 * i;
-        let e = a + 79;
-        lsps[i] = field::path_of(&s[a..e]);
-        i += 1;
+    for (i, f) in fields.iter().enumerate() {
+        lsps[i] = field::path_of(f);
     }
     lsps
-}
-
-pub(crate) fn write_fields(s: &mut [u8], lsps: [Lsp; 64], n: usize)
-    requires { (n ≤ 64) × (length s.old ≡ 79 * n) }
-    ensures { s.new ≡ fields_of (take n lsps) }
-{
-    let mut i = 0;
-    while i < n {
-        let a = 79 * i;
-        let e = a + 79;
-        let l = lsps[i];
-        field::write(&mut s[a..e], l);
-        i += 1;
-    }
 }

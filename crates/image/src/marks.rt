@@ -1,31 +1,24 @@
 // TTSIs told apart without comparing each with all: a mark for each, and only those whose mark was set before are compared.
-ghost use Rattle.std.specs.Prelude.{◌≡◌, length};
+ghost use Rattle.std.specs.Prelude.{◌≡◌};
+ghost use Rattle.field.specs.Field.{ttsi_in};
 ghost use Rattle.lsp.specs.Steps.{same};
 ghost use Rattle.image.specs.Image.{mark_of};
 
-// One of 501 marks for each TTSI.
-pub(crate) fn mark(t: &[u8]) -> usize
-    requires { length t.now ≡ 20 }
-    ensures { result ≡ mark_of t.now }
+use crate::Field;
+
+// One of 501 marks for the TTSI of each field.
+pub(crate) fn mark(field: &Field) -> usize
+    ensures { result ≡ mark_of (ttsi_in field.now) }
 {
-    let high = octets::number(&t[4..12]) % 251;
-    let low = octets::number(&t[12..20]) % 251;
+    let high = octets::number(&field[8..16]) % 251;
+    let low = octets::number(&field[16..24]) % 251;
     (high + low) as usize
 }
 
-// From the last octet on: TTSIs of one network differ there.
+#[tactic(auto, using(lsp::proofs::Rows::same_is, crate::proofs::Compared::lasts_differ))]
+// The last octets first: TTSIs of one network differ there.
 pub fn same_octets(a: &[u8], b: &[u8]) -> bool
     ensures { result ≡ same a.now b.now }
 {
-    if a.len() != b.len() {
-        return false;
-    }
-    let mut i = a.len();
-    while 0 < i {
-        i -= 1;
-        if a[i] != b[i] {
-            return false;
-        }
-    }
-    true
+    a.last() == b.last() && a == b
 }

@@ -1,79 +1,61 @@
 // Restoring, and whether lent octets begin with an image.
-ghost use Rattle.std.specs.Prelude.{◌≡◌};
-ghost use Rattle.image.specs.Image.{is_image, image_in, refused, restore_of};
+ghost use Rattle.std.specs.Prelude.{◌≡◌, ◌↔◌, IsTrue, MatchOption, true, false, length, drop};
+ghost use Rattle.std.specs.Simd.{first_chunks};
+ghost use Rattle.octets.specs.Parts.{octet_at};
+ghost use Rattle.image.specs.Image.{head_of, is_image, image_in, count_in, restore_of};
+ghost use Rattle.image.specs.Outcomes.{restored_in};
 
-use crate::fields::{are_fields, read_fields};
+use crate::fields::{are_fields, paths_of};
+use crate::{FIELD, Field, HEAD, head};
+use refusal::Refusal;
 use table::Table;
-
-// The number of the answer, and the table: an empty one where the number isn't 0.
-#[derive(Clone, Copy)]
-pub struct Restored {
-    pub number: u8,
-    pub table: Table,
-}
 
 // Paths of a table, at most.
 const MOST: usize = 64;
+
+// Whether the octets are the head of as many paths as the last of them says: there is one version.
+fn is_head(first: [u8; HEAD]) -> bool
+    ensures { IsTrue result ↔ (first ≡ head_of (octet_at first 4)) }
+{
+    first == head(first[4])
+}
+
+// The fields of the image that the octets begin with.
+#[tactic(auto, using(crate::proofs::Prefix::other_head, crate::proofs::Prefix::too_short, crate::proofs::Prefix::few_fields, crate::proofs::Prefix::fields_are, crate::proofs::Prefix::too_many, crate::proofs::Prefix::fields_decide))]
+fn fields_in(s: &[u8]) -> Option<&[Field]>
+    ensures { MatchOption result (is_image (image_in s.now) ≡ false)
+        (λ fields. (is_image (image_in s.now) ≡ true) × (length fields.now ≡ count_in s.now) × (fields.now ≡ first_chunks 79 (count_in s.now) (drop 5 s.now))) }
+{
+    let (first, rest) = s.split_first_chunk()?;
+    if !is_head(*first) {
+        return None;
+    }
+    let (fields, _) = rest.as_chunks();
+    let fields = fields.get(..usize::from(first[4]))?;
+    if MOST < fields.len() || !are_fields(fields) {
+        return None;
+    }
+    Some(fields)
+}
 
 // Whether the octets up to the last field that the header counts are an image.
 pub fn begins(s: &[u8]) -> bool
     ensures { result ≡ is_image (image_in s.now) }
 {
-    if s.len() < 5 {
-        return false;
-    }
-    if s[0] != 1 {
-        return false;
-    }
-    if s[1] != 0 {
-        return false;
-    }
-    if s[2] != 2 {
-        return false;
-    }
-    // There is one version.
-    let other = s[3] != 1;
-    if other {
-        return false;
-    }
-    let n = s[4] as usize;
-    if MOST < n {
-        return false;
-    }
-    let e = 5 + 79 * n;
-    if s.len() < e {
-        return false;
-    }
-    are_fields(&s[5..e], n)
+    fields_in(s).is_some()
 }
 
-fn refused() -> Restored
-    ensures { result ≡ refused }
+// The table whose image the octets are.
+#[tactic(auto, using(crate::proofs::Prefix::begun, crate::proofs::Prefix::not_begun, crate::proofs::Prefix::wrong_length, crate::proofs::Prefix::accepted))]
+pub fn restore(im: &[u8]) -> Result<Table, Refusal>
+    ensures { restored_in result ≡ restore_of im.now }
 {
-    Restored {
-        number: 10,
-        table: Table::empty(),
+    let fields = fields_in(im).ok_or(Refusal::Broken)?;
+    if im.len() != HEAD + FIELD * fields.len() {
+        return Err(Refusal::Broken);
     }
-}
-
-// The table whose image the octets are: 10, or 0.
-pub fn restore(im: &[u8]) -> Restored
-    ensures { result ≡ restore_of im.now }
-{
-    if !begins(im) {
-        return refused();
-    }
-    let n = im[4] as usize;
-    let e = 5 + 79 * n;
-    if im.len() != e {
-        return refused();
-    }
-    let lsps = read_fields(&im[5..e], n);
-    Restored {
-        number: 0,
-        table: Table {
-            count: n as u64,
-            lsps,
-        },
-    }
+    Ok(Table {
+        count: fields.len() as u64,
+        lsps: paths_of(fields),
+    })
 }

@@ -1,28 +1,31 @@
 // The image's length, and saving.
 ghost use Rattle.std.specs.Prelude.{◌≡◌};
+ghost use Rattle.refusal.specs.Numbers.{number_in};
 ghost use Rattle.image.specs.Image.{length_of, save_of};
 
-use crate::fields::write_fields;
+use crate::{FIELD, HEAD, head};
+use refusal::Refusal;
 use table::Table;
 
 // How many octets the image of the table has.
 pub fn length(t: Table) -> usize
     ensures { result ≡ length_of t }
 {
-    5 + 79 * t.present()
+    HEAD + FIELD * t.present()
 }
 
-// The image over the first octets of buf: 11, or 0.
-pub fn save(t: Table, buf: &mut [u8]) -> u8
-    ensures { (result, buf.new) ≡ save_of t buf.old }
+// The image over the first octets of buf.
+#[tactic(auto, using(crate::proofs::Turns::written_start, crate::proofs::Turns::written_next, crate::proofs::Turns::written_end))]
+pub fn save(t: Table, buf: &mut [u8]) -> Result<(), Refusal>
+    ensures { (number_in result, buf.new) ≡ save_of t buf.old }
 {
-    let n = t.present();
-    let e = 5 + 79 * n;
-    if buf.len() < e {
-        return 11;
+    if buf.len() < length(t) {
+        return Err(Refusal::Short);
     }
-    octets::copy(&[1, 0, 2, 1, n as u8], buf);
-    let lsps = t.lsps;
-    write_fields(&mut buf[5..e], lsps, n);
-    0
+    let n = t.present();
+    octets::copy(&head(n as u8), buf);
+    for (i, l) in t.lsps[..n].iter().enumerate() {
+        field::write(&mut buf[HEAD + FIELD * i..], *l)?;
+    }
+    Ok(())
 }

@@ -1,113 +1,82 @@
 // What states the drawn tables are in, read from their images.
-use crate::saved::{Buffer, SIZE};
-use crate::text::add;
-use crate::{compare, drawn, text};
+use crate::compare::FILL;
+use crate::drawn;
+use crate::saved::SIZE;
+use std::{fmt, io};
 
-const ROWS: usize = 9 * 256;
+// What is counted, and where in a field it stands; of more octets than one, the last.
+const ROWS: [(&str, usize); 9] = [
+    ("drawn paths, kind", 3),
+    ("drawn paths, closed", 35),
+    ("drawn paths, E of the open slot", 46),
+    ("drawn paths, U of the open slot", 57),
+    ("drawn paths, code's second octet", 59),
+    ("drawn paths, closes stood", 60),
+    ("drawn paths, unavailable", 61),
+    ("drawn paths, server", 70),
+    ("drawn paths with an FDI standing, kind", 3),
+];
 
-// How often each octet came, in a row for each place looked at.
-type Counts = [u32; ROWS];
+// The row that counts only where an FDI stands.
+const TOLD: usize = 8;
 
-fn count(counts: &mut Counts, row: usize, octet: u8) {
-    let k = row % 9 * 256 + octet as usize;
-    if k < ROWS {
-        counts[k] = add(counts[k], 1);
+// How often each octet came.
+// Each program has its own: in a crate of theirs each call would need a promise and two wrong answers, and be longer for it.
+#[derive(Clone, Copy)]
+struct Counts([u32; 256]);
+
+impl Counts {
+    fn count(&mut self, octet: u8) {
+        let n = &mut self.0[usize::from(octet)];
+        *n = n.saturating_add(1);
     }
 }
 
-// Where in a field it stands; of more octets than one, the last.
-fn place(row: usize) -> usize {
-    match row {
-        // Kind, closed, E and U of the open slot.
-        0 => 3,
-        1 => 35,
-        2 => 46,
-        3 => 57,
-        // Code, closes stood, unavailable, server.
-        4 => 59,
-        5 => 60,
-        6 => 61,
-        _ => 70,
+impl fmt::Display for Counts {
+    fn fmt<W: fmt::Write>(&self, f: &mut fmt::Formatter<W>) -> fmt::Result {
+        for (octet, n) in self.0.iter().enumerate() {
+            if *n != 0 {
+                write!(f, " {octet}:{n}")?;
+            }
+        }
+        Ok(())
     }
 }
 
-// Whether the field at offset a has closes left.
-fn is_told(b: &Buffer, a: usize) -> bool {
-    let left = a % SIZE + 71;
-    compare::at(b, left) != 0 || compare::at(b, left + 1) != 0
+type Census = [Counts; 9];
+
+// Whether the field has closes left.
+fn is_told(field: &[u8; 79]) -> bool {
+    field[71] != 0 || field[72] != 0
 }
 
-// A place of the field at offset a; in the last row the kind where an FDI stands.
-fn look(counts: &mut Counts, b: &Buffer, a: usize, row: usize) {
-    if row < 8 {
-        count(counts, row, compare::at(b, a % SIZE + place(row) % 79));
-    } else if is_told(b, a) {
-        count(counts, row, compare::at(b, a % SIZE + 3));
+fn field(census: &mut Census, field: &[u8; 79]) {
+    for (row, (_, place)) in ROWS.iter().enumerate() {
+        if row != TOLD || is_told(field) {
+            census[row].count(field[*place]);
+        }
     }
 }
 
-fn field(counts: &mut Counts, b: &Buffer, a: usize) {
-    for row in 0..9 {
-        look(counts, b, a, row);
+fn table(census: &mut Census, paths: u64, seed: u64) {
+    let mut b = [FILL; SIZE];
+    image::save(drawn::table(paths, seed), &mut b).ok();
+    for (_, part) in (0..paths).zip(b[5..].chunks_exact(79)) {
+        if let Some(part) = part.first_chunk() {
+            field(census, part);
+        }
     }
 }
 
-fn fields(counts: &mut Counts, b: &Buffer, n: usize) {
-    for i in 0..n {
-        field(counts, b, 5 + i % 64 * 79);
+pub(crate) fn claims(rt: &impl Print) -> io::Result<()> {
+    let mut census = [Counts([0; 256]); 9];
+    for (paths, seed) in [(1, 10), (2, 20), (3, 30), (64, 640)] {
+        for k in 1..7 {
+            table(&mut census, paths, seed + k);
+        }
     }
-}
-
-fn table(counts: &mut Counts, n: usize, seed: u64) {
-    let mut b = [0xAAu8; SIZE];
-    image::save(drawn::table(n as u64, seed), &mut b);
-    fields(counts, &b, n);
-}
-
-fn tables(counts: &mut Counts, n: usize) {
-    for k in 1..7 {
-        table(counts, n, n as u64 % 1000 * 10 + k);
+    for ((words, _), counts) in ROWS.iter().zip(census) {
+        println!(rt; "{words}:times{counts}")?;
     }
-}
-
-// An octet of a row, where it came.
-fn shown(counts: &Counts, row: usize, octet: usize) {
-    let n = counts[row % 9 * 256 + octet % 256];
-    if n != 0 {
-        text::times(octet, n);
-    }
-}
-
-fn show(words: &[u8], counts: &Counts, row: usize) {
-    text::words(words);
-    text::words(b":times");
-    for k in 0..256 {
-        shown(counts, row, k);
-    }
-    text::words(b"\n");
-}
-
-fn packets(counts: &Counts) {
-    show(b"drawn paths, kind", counts, 0);
-    show(b"drawn paths, closed", counts, 1);
-    show(b"drawn paths, E of the open slot", counts, 2);
-    show(b"drawn paths, U of the open slot", counts, 3);
-}
-
-fn states(counts: &Counts) {
-    show(b"drawn paths, code's second octet", counts, 4);
-    show(b"drawn paths, closes stood", counts, 5);
-    show(b"drawn paths, unavailable", counts, 6);
-    show(b"drawn paths, server", counts, 7);
-    show(b"drawn paths with an FDI standing, kind", counts, 8);
-}
-
-pub(crate) fn claims() {
-    let mut counts = [0u32; ROWS];
-    tables(&mut counts, 1);
-    tables(&mut counts, 2);
-    tables(&mut counts, 3);
-    tables(&mut counts, 64);
-    packets(&counts);
-    states(&counts);
+    Ok(())
 }

@@ -1,71 +1,28 @@
-// Octets compared, counted and summed.
-use crate::text::add;
+// Parts of octets, and what is reckoned of them.
 
-// The two running sums of a checksum.
-#[derive(Drop)]
-pub(crate) struct Sums {
-    pub a: u32,
-    pub b: u32,
-}
-
-impl Sums {
-    fn and(self, x: u8) -> Sums {
-        let a = (self.a % 65521 + x as u32) % 65521;
-        Sums {
-            a,
-            b: (self.b % 65521 + a) % 65521,
-        }
-    }
-}
-
-pub(crate) fn checksum(s: &[u8]) -> Sums {
-    let mut sums = Sums { a: 1, b: 0 };
-    let mut i = 0;
-    while i < s.len() {
-        sums = sums.and(s[i]);
-        i += 1;
-    }
-    sums
-}
-
-pub(crate) fn same(a: &[u8], b: &[u8]) -> bool {
-    let mut i = 0;
-    while i < a.len() {
-        if i >= b.len() {
-            return false;
-        }
-        if a[i] != b[i] {
-            return false;
-        }
-        i += 1;
-    }
-    a.len() == b.len()
-}
+// What a buffer holds before a call writes into it.
+pub(crate) const FILL: u8 = 0xAA;
 
 // How many octets are aa.
-pub(crate) fn left(s: &[u8]) -> u32 {
-    let mut n: u32 = 0;
-    let mut i = 0;
-    while i < s.len() {
-        if s[i] == 0xAA {
-            n = add(n, 1);
-        }
-        i += 1;
-    }
-    n
+pub(crate) fn left(s: &[u8]) -> usize {
+    s.iter().filter(|octet| **octet == FILL).count()
 }
 
-// The first n octets; none where there are not so many.
+// The first n octets, or as many as there are.
+// Each program has its own: in a crate of theirs each call would need a promise and two wrong answers, and be longer for it.
 pub(crate) fn first(s: &[u8], n: usize) -> &[u8] {
-    if n <= s.len() { &s[0..n] } else { &s[0..0] }
+    &s[..n.min(s.len())]
 }
 
 // Those after the first n.
 pub(crate) fn rest(s: &[u8], n: usize) -> &[u8] {
-    if n <= s.len() { &s[n..] } else { &s[0..0] }
+    &s[n.min(s.len())..]
 }
 
-// An octet; 0 past the last.
-pub(crate) fn at(s: &[u8], i: usize) -> u8 {
-    if i < s.len() { s[i] } else { 0 }
+// The two running sums of a checksum.
+pub(crate) fn checksum(s: &[u8]) -> (u32, u32) {
+    s.iter().fold((1, 0), |(a, b), octet| {
+        let a = (a % 65521 + u32::from(*octet)) % 65521;
+        (a, (b % 65521 + a) % 65521)
+    })
 }

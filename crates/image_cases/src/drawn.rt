@@ -1,15 +1,24 @@
 // A table made by public calls, all drawn from a seed.
-use crate::packets::Ttsi;
+use crate::packets::{Payload, Ttsi};
+use crate::source::Source;
 use crate::{packets, source};
 use payload::FunctionType;
 use table::Table;
 
-// The table on its way, the number drawn last, and the style of the path's slots.
+// A path by its number, its packets, and the style of its slots.
+#[derive(Clone, Copy)]
+struct Path {
+    lsp: u64,
+    ttsi: Ttsi,
+    kind: u8,
+    style: u64,
+}
+
+// The table on its way, and the numbers that it is drawn from.
 #[derive(Drop)]
 struct Walk {
     table: Table,
-    x: u64,
-    style: u64,
+    source: Source,
 }
 
 // A TTSI for each path, with an octet that is drawn.
@@ -17,13 +26,6 @@ fn ttsi(lsp: u64, x: u64) -> Ttsi {
     let mut t = packets::tunnel((7 + lsp % 200) as u8);
     t[3] = (x % 256) as u8;
     t
-}
-
-// That of no path.
-fn other(t: Ttsi) -> Ttsi {
-    let mut o = t;
-    o[0] = 1;
-    o
 }
 
 fn word(x: u64) -> u32 {
@@ -35,90 +37,75 @@ fn rate(y: u64) -> u8 {
     if y % 2 == 0 { 0 } else { (1 + y % 6) as u8 }
 }
 
-// The packets of a slot.
-fn counted(t: Table, lsp: u64, ttsi: Ttsi, kind: u8, style: u64, y: u64) -> Table {
-    let o = other(ttsi);
-    let p = packets::packet(&ttsi, kind);
-    let q = packets::packet(&o, rate(y));
-    let own = packets::fed(t, lsp, &p, source::expected(style, y));
-    packets::fed(own, lsp, &q, source::others(style, y))
-}
-
-// An FDI where ty is 0, a BDI where it is 1.
-fn told(t: Table, lsp: u64, ttsi: Ttsi, ty: u8, z: u64) -> Table {
-    let o = other(ttsi);
-    let dt = source::defect_type(z / 8);
-    let p = packets::told(FunctionType::FDI + ty % 2, &o, dt, word(z));
-    packets::fed(t, lsp, &p, 1)
-}
-
-// An FDI, a BDI, the server signal, or none of these.
-fn signalled(t: Table, lsp: u64, ttsi: Ttsi, z: u64) -> Table {
-    match z % 8 {
-        0 => told(t, lsp, ttsi, 0, z),
-        1 => told(t, lsp, ttsi, 1, z),
-        2 => t.server(lsp, (z / 8 % 2) as u8).next,
-        _ => t,
+impl Path {
+    // The TTSI of no path.
+    fn other(self) -> Ttsi {
+        let mut o = self.ttsi;
+        o[0] = 1;
+        o
     }
-}
-
-// A style that changes in one slot of eight.
-fn style(before: u64, x: u64) -> u64 {
-    if x % 8 == 0 { x / 8 % 7 } else { before }
 }
 
 impl Walk {
-    // With what comes in a slot.
-    fn slot(self, lsp: u64, ttsi: Ttsi, kind: u8) -> Walk {
-        let table = self.table;
-        let x = source::next(self.x);
-        let y = source::next(x);
-        let z = source::next(y);
-        let style = style(self.style, x);
-        let fed = counted(table, lsp, ttsi, kind, style, y);
-        Walk {
-            table: signalled(fed, lsp, ttsi, z),
-            x: z,
-            style,
+    // The same payload to a path k times.
+    fn feed(&mut self, path: Path, p: &Payload, k: u64) {
+        self.table = packets::fed(self.table, path.lsp, p, k);
+    }
+
+    fn tell(&mut self, path: Path, ty: FunctionType, z: u64) {
+        let dt = source::defect_type(z / 8) as u16;
+        let p = packets::told(ty, &path.other(), dt, word(z));
+        self.feed(path, &p, 1);
+    }
+
+    // An FDI, a BDI, the server signal, or none of these.
+    fn signal(&mut self, path: Path, z: u64) {
+        match z % 8 {
+            0 => self.tell(path, FunctionType::Fdi, z),
+            1 => self.tell(path, FunctionType::Bdi, z),
+            2 => self.table = packets::server(self.table, path.lsp, (z / 8 % 2) as u8),
+            _ => {}
         }
     }
 
-    fn closed(self, lsp: u64) -> Walk {
-        let table = self.table;
-        let c = table.close(lsp);
-        let next = c.next;
-        Walk {
-            table: next,
-            x: self.x,
-            style: self.style,
-        }
+    // What comes in a slot; the path with the slot's style.
+    fn slot(&mut self, path: Path) -> Path {
+        let x = self.source.draw();
+        let y = self.source.draw();
+        let z = self.source.draw();
+        let mut p = path;
+        p.style = source::style(path.style, x);
+        let own = packets::packet(&p.ttsi, p.kind);
+        let other = packets::packet(&p.other(), rate(y));
+        self.feed(p, &own, source::expected(p.style, y));
+        self.feed(p, &other, source::others(p.style, y));
+        self.signal(p, z);
+        p
     }
 
-    // With so many slots closed, and one open.
-    fn slots(self, lsp: u64, ttsi: Ttsi, kind: u8, many: u64) -> Walk {
-        let mut w = self;
+    // So many slots closed, and one open.
+    fn slots(&mut self, path: Path, many: u64) {
+        let mut p = path;
         for _ in 0..many {
-            w = w.slot(lsp, ttsi, kind).closed(lsp);
+            p = self.slot(p);
+            self.table = packets::closed(self.table, p.lsp);
         }
-        w.slot(lsp, ttsi, kind)
+        self.slot(p);
     }
 
-    // With one path more.
-    fn path(self, lsp: u64) -> Walk {
-        let table = self.table;
-        let a = source::next(self.x);
-        let b = source::next(a);
-        let c = source::next(b);
-        let t = ttsi(lsp, a);
-        let kind = source::kind(a);
-        let added = table.add(kind, &t, word(b));
-        let next = added.next;
-        let w = Walk {
-            table: next,
-            x: c,
+    // One path more.
+    fn path(&mut self, lsp: u64) {
+        let a = self.source.draw();
+        let b = self.source.draw();
+        let c = self.source.draw();
+        let path = Path {
+            lsp,
+            ttsi: ttsi(lsp, a),
+            kind: source::kind(a),
             style: b % 7,
         };
-        w.slots(lsp, t, kind, source::slots(c))
+        self.table = packets::added(self.table, path.kind, &path.ttsi, word(b));
+        self.slots(path, source::slots(c));
     }
 }
 
@@ -126,11 +113,10 @@ impl Walk {
 pub(crate) fn table(n: u64, seed: u64) -> Table {
     let mut w = Walk {
         table: Table::empty(),
-        x: source::next(source::next(seed)),
-        style: 0,
+        source: Source::new(seed),
     };
-    for i in 0..n {
-        w = w.path(i);
+    for lsp in 0..n {
+        w.path(lsp);
     }
     w.table
 }

@@ -10,12 +10,13 @@ mod packets;
 mod saved;
 mod source;
 mod swept;
-mod text;
 mod three;
 
-fn main() {
-    saved::claims();
-    census::claims();
-    swept::claims();
-    named::claims();
+use std::io;
+
+fn main(rt: HostRuntime) -> io::Result<()> {
+    saved::claims(&rt)?;
+    census::claims(&rt)?;
+    swept::claims(&rt)?;
+    named::claims(&rt)
 }

@@ -17,15 +17,15 @@ use Rattle.rules.specs.History.{state_of}
 use Rattle.rules.proofs.Theorem.{state_right, state_right_ffd}
 use Rattle.window.specs.View.{view, state_out, record_out}
 use Rattle.window.specs.declared.state.Defect.TheVariants.{Clear}
-use Rattle.window.specs.declared.state.Record.TheVariants.{Nothing}
+use Rattle.std.specs.Prelude.{None}
 use Rattle.window.proofs.Views.{view_out}
 use Rattle.lsp.specs.Steps.{same, gone, is_cv, counts, counted_by, counted_of, told_of, taken_by, receive_by, receive_of, faded_of, out_is, out_of, after_close, close_of, with_server, server_of}
 use Rattle.lsp.specs.History.{Added, History, arrives, told, reported, signalled, closes, counted, slots, server_in, Last, none, heard, last_fdi, end, fdi_after}
 use Rattle.lsp.specs.History.{counted_as, heard_by, received_by, received, limit, closed, signalled_as}
 use Rattle.lsp.specs.Theorem.{added}
 use Rattle.lsp.specs.declared.path.Lsp.{Lsp}
-use Rattle.lsp.specs.declared.path.Signalled.{Signalled}
-use Rattle.lsp.specs.declared.close.Closed.{Closed}
+use Rattle.lsp.specs.Outcomes.{Signalled}
+use Rattle.lsp.specs.Outcomes.{Closed}
 
 abbrev pub cv_in : Added → Bool
 cv_in a = eqb a.kind 0
@@ -161,7 +161,7 @@ unfolding close_of
 close_well l h = rw (lt-leb limit l.state.closed h)
 
 pub close_full : (l : Lsp) → limit ≤ l.state.closed
-    → close_of l ≡ record { number = 9; defect = Clear; out = out_is 0 0 false false; handed = Nothing; next = l }
+    → close_of l ≡ record { number = 9; defect = Clear; out = out_is 0 0 false false; handed = None; next = l }
 unfolding close_of
 close_full l h = rw (le-leb limit l.state.closed h)
 

@@ -7,8 +7,8 @@ use Rattle.lsp.specs.Steps.{close_of}
 use Rattle.lsp.specs.Sound.{Sound, sound}
 use Rattle.lsp.specs.InPlace.{refused_here, answer_here, close_here_by, close_here_of, ClosedInPlace, CloseInPlace}
 use Rattle.lsp.specs.declared.path.Lsp.{Lsp}
-use Rattle.lsp.specs.declared.close.Closed.{Closed}
-use Rattle.lsp.specs.declared.place.ClosedHere.{ClosedHere}
+use Rattle.lsp.specs.Outcomes.{Closed}
+use Rattle.lsp.specs.Outcomes.{ClosedHere}
 use Rattle.lsp.proofs.Follows.{close_full}
 use Rattle.lsp.proofs.Soundness.{sound_tested}
 use Rattle.lsp.proofs.SoundKept.{sound_kept}
@@ -17,12 +17,6 @@ module _ (l : Lsp) where
   by_test : (b : Bool) → sound l ≡ b → close_here_of l ≡ close_here_by b l (close_of l)
   unfolding close_here_of
   by_test b e = ap (λ (t : Bool). close_here_by t l (close_of l)) e
-
-  pub not_sound : sound l ≡ false → (refused_here 10, l) ≡ close_here_of l
-  not_sound e = sym (by_test false e)
-
-  pub as_close : (c : Closed) → sound l ≡ true → c ≡ close_of l → (answer_here c, c.next) ≡ close_here_of l
-  as_close c e h = ap (close_here_by true l) h ∙ sym (by_test true e)
 
   -- ---- the law
 

@@ -9,7 +9,7 @@ use Rattle.payload.specs.Reading.{Answer, read_of, accepts, ttsi_at}
 use Rattle.lsp.specs.Steps.{same, counted_by, taken_by, receive_by, receive_of, server_of, close_of}
 use Rattle.lsp.specs.History.{limit}
 use Rattle.lsp.specs.declared.path.Lsp.{Lsp}
-use Rattle.lsp.specs.declared.close.Closed.{Closed}
+use Rattle.lsp.specs.Outcomes.{Closed}
 use Rattle.lsp.proofs.Follows.{close_well, close_full}
 
 module _ (l : Lsp) where

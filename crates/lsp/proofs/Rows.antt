@@ -1,48 +1,44 @@
--- A row of counts: a turn of each loop that tests it, and that the test says what the rule says. Assumes nothing.
-use mathlib.Core.Path.{◌≡◌, refl}
+-- Rows of counts and octets: what the chains that test them come to, and that the test says what the rule says. Assumes nothing.
+use mathlib.Core.Path.{◌≡◌, refl, ap, sym, ◌∙◌}
 use mathlib.Core.Bool.{Bool, true, false}
 use mathlib.Core.List.{List, [], ◌∷◌}
-use Prim.Native.Nat.{ℕ, zero, suc, ◌+◌, ◌-◌, ◌≤◌, ◌<◌}
-use native.Mathlib.Numerals.{add-one}
+use Prim.Native.Nat.{ℕ, zero, suc, ◌≤◌, ◌<◌}
 use native.Mathlib.Omega.{arith}
 use lib.Dec.{eqb, leb}
-use lib.ListN.{length, get_or, take, drop, drop_of_length-le}
-use lib.Seq.{drop-cons}
-use borrow.Author.Tests.{eq-eqb, ne_eqb, eqb-true, le-leb, lt-leb, leb-true}
+use lib.ListN.{length, get_or, take}
+use borrow.Author.Tests.{eq-eqb, eqb-true, le-leb, leb-true}
+use Rattle.std.specs.Prelude.{◌&&◌}
+use lib.Pointwise.{pointwise}
+use Rattle.std.specs.List.{list_all}
 use Rattle.payload.specs.Test.{both, all_zero}
 use Rattle.payload.proofs.Tests.{both_left, both_right}
 use Rattle.rules.specs.Claim.{Row}
+use Rattle.lsp.specs.Steps.{same}
 use Rattle.lsp.specs.Sound.{within, never_were, is_row}
 
--- ---- the loop over a row's counts
+and_is : (a b : Bool) → both a b ≡ (a && b)
+and_is true b = refl
+and_is false b = refl
 
-module _ (cut : ℕ) (row : List ℕ) (i : ℕ) where
-  pub within_turn : i < length row → get_or row i 0 ≤ cut → within cut (drop i row) ≡ within cut (drop (i + 1) row)
-  unfolding within
-  within_turn h k = rw (add-one, drop-cons row i 0, le-leb (get_or row i 0) cut k)
+-- ---- the chains over a row's counts
 
-  pub within_stop : i < length row → cut < get_or row i 0 → within cut (drop i row) ≡ false
-  unfolding within
-  within_stop h k = rw (drop-cons row i 0, lt-leb (get_or row i 0) cut k)
+pub within_all : (cut : ℕ) (row : List ℕ) → within cut row ≡ list_all (λ x. leb x cut) row
+unfolding within
+within_all cut [] = refl
+within_all cut (x ∷ row) = ap (both (leb x cut)) (within_all cut row) ∙ and_is (leb x cut) (list_all (λ y. leb y cut) row)
 
-  pub within_end : length row ≤ i → within cut (drop i row) ≡ true
-  unfolding within
-  within_end h = rw (drop_of_length-le row h)
+pub zeros_all : (row : List ℕ) → all_zero row ≡ list_all (λ x. eqb x 0) row
+zeros_all [] = refl
+zeros_all (x ∷ row) = ap (both (eqb x 0)) (zeros_all row) ∙ and_is (eqb x 0) (list_all (λ y. eqb y 0) row)
 
--- ---- the loop over the first n
+-- ---- octets compared
 
-module _ (n : ℕ) (row : List ℕ) (i : ℕ) where
-  ahead : i < n → n - i ≡ suc (n - suc i)
-  ahead h = omega arith
-
-  pub zeros_turn : i < n → i < length row → get_or row i 0 ≡ 0 → all_zero (take (n - i) (drop i row)) ≡ all_zero (take (n - (i + 1)) (drop (i + 1) row))
-  zeros_turn h k e = rw (add-one, drop-cons row i 0, ahead h, eq-eqb (get_or row i 0) 0 e)
-
-  pub zeros_stop : i < n → i < length row → (get_or row i 0 ≡ 0 → ⊥) → all_zero (take (n - i) (drop i row)) ≡ false
-  zeros_stop h k e = rw (drop-cons row i 0, ahead h, ne_eqb (get_or row i 0) 0 e)
-
-  pub zeros_end : n ≤ i → all_zero (take (n - i) (drop i row)) ≡ true
-  zeros_end h = let z : n - i ≡ 0 = omega arith in rw z
+pub same_is : (a b : List ℕ) → pointwise eqb a b ≡ same a b
+unfolding same
+same_is [] [] = refl
+same_is [] (y ∷ ys) = refl
+same_is (x ∷ xs) [] = refl
+same_is (x ∷ xs) (y ∷ ys) = sym (and_is (eqb x y) (pointwise eqb xs ys)) ∙ ap (both (eqb x y)) (same_is xs ys)
 
 -- ---- the tests say what the rule says
 
@@ -91,12 +87,3 @@ row_test low cut closed row r l =
 module _ (cut closed : ℕ) (row : List ℕ) where
   abbrev empty : Bool
   empty = all_zero (take (never_were closed) row)
-
-  pub not_eleven : (length row ≡ 11 → ⊥) → false ≡ is_row cut closed row
-  not_eleven h = rw (ne_eqb (length row) 11 h)
-
-  pub too_many : length row ≡ 11 → within cut row ≡ false → false ≡ is_row cut closed row
-  too_many n h = rw (eq-eqb (length row) 11 n, h)
-
-  pub as_empty : (r : Bool) → length row ≡ 11 → within cut row ≡ true → r ≡ empty → r ≡ is_row cut closed row
-  as_empty r n h e = rw (eq-eqb (length row) 11 n, h) e

@@ -21,7 +21,7 @@ use Rattle.lsp.specs.Steps.{gone, new_of, same, counts, counted_by, told_of, tak
 use Rattle.lsp.specs.Sound.{SoundFdi, Sound, SoundKept}
 use Rattle.lsp.specs.declared.path.Fdi.{Fdi}
 use Rattle.lsp.specs.declared.path.Lsp.{Lsp}
-use Rattle.lsp.specs.declared.path.Signalled.{Signalled}
+use Rattle.lsp.specs.Outcomes.{Signalled}
 use Rattle.lsp.proofs.Ranges.{receive_ranges, close_ranges}
 use Rattle.lsp.proofs.SoundParts.{seen, with_parts, with_signals}
 

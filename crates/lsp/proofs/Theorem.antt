@@ -19,14 +19,14 @@ use Rattle.rules.specs.History.{state_of, count_in}
 use Rattle.rules.specs.Claim.{Right, RightFfd, RightDefect}
 use Rattle.rules.proofs.Theorem.{state_right, state_right_ffd, answer_right}
 use Rattle.window.specs.View.{view, defect_in, record_out}
-use Rattle.window.specs.declared.state.Record.TheVariants.{Nothing}
+use Rattle.std.specs.Prelude.{None}
 use Rattle.window.proofs.Views.{record_out_one}
 use Rattle.lsp.specs.Steps.{same, counted_by, counted_of, taken_of, receive_by, receive_of, out_by, close_of}
 use Rattle.lsp.specs.History.{Added, History, counted, slots, server_in, last_fdi, fdi_after, closes, limit}
 use Rattle.lsp.specs.Theorem.{Step, receive, close, server, after, history_of, added, exact, Path, Closing, AtLimit, strange, answer_to, Theorem}
 use Rattle.lsp.specs.declared.path.Fdi.{Fdi}
 use Rattle.lsp.specs.declared.path.Lsp.{Lsp}
-use Rattle.lsp.specs.declared.close.Closed.{Closed}
+use Rattle.lsp.specs.Outcomes.{Closed}
 use Rattle.lsp.proofs.Follows.{cv_in, Follows, at_first, receives, signals, slots_are, closed_well, close_well, close_full, next_state_lem, one_more, closes_one}
 
 pub follows : (a : Added) (s : List Step) → Follows a (after (added a) s) (history_of a s)
@@ -89,7 +89,7 @@ module _ (a : Added) (l : Lsp) (h : History) (f : Follows a l h) where
         let w = (answer_right (counted h)).hands r in
         (λ q. w.0 (record_out_one _ r (sym (handed_cv e) ∙ q)), λ q. handed_cv e ∙ ap record_out (w.1 q))
 
-    no_record : (a.kind ≡ 0 → ⊥) → (close_of l).handed ≡ Nothing
+    no_record : (a.kind ≡ 0 → ⊥) → (close_of l).handed ≡ None
     no_record n =
         ap (λ (c : Closed). c.handed) well
         ∙ ap (λ (b : Bool). record_out (machine.handed_out b (view l.state))) (ap (λ (k : ℕ). eqb k 0) f.kind ∙ is_ffd n)

@@ -2,16 +2,16 @@
 -- Assumes nothing.
 use Rattle.std.specs.Prelude.{◌≡◌, Bool, true, false, ℕ, ◌≤◌}
 use Rattle.window.specs.declared.state.Defect.TheVariants.{Clear}
-use Rattle.window.specs.declared.state.Record.TheVariants.{Nothing}
+use Rattle.std.specs.Prelude.{None}
 use Rattle.lsp.specs.Steps.{out_is, close_of}
 use Rattle.lsp.specs.Sound.{Sound, sound}
 use Rattle.lsp.specs.declared.path.Lsp.{Lsp}
-use Rattle.lsp.specs.declared.close.Closed.{Closed}
-use Rattle.lsp.specs.declared.place.ClosedHere.{ClosedHere}
+use Rattle.lsp.specs.Outcomes.{Closed}
+use Rattle.lsp.specs.Outcomes.{ClosedHere}
 
 -- a refusal carries its number, all else zero
 abbrev pub refused_here : ℕ → ClosedHere
-refused_here n = record { number = n; defect = Clear; out = out_is 0 0 false false; handed = Nothing }
+refused_here n = record { number = n; defect = Clear; out = out_is 0 0 false false; handed = None }
 
 -- of what the close by value answers and leaves
 abbrev pub answer_here : Closed → ClosedHere

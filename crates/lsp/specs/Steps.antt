@@ -9,14 +9,14 @@ use Rattle.rules.specs.Machine.{fresh, receive}
 use Rattle.window.specs.View.{view, state_out, packet_of, standing, code_of, turned_of}
 use Rattle.window.specs.declared.state.Defect.{Defect}
 use Rattle.window.specs.declared.state.Defect.TheVariants.{Clear, Mismatch, Mismerge, Locv, Excess}
-use Rattle.window.specs.declared.state.Record.TheVariants.{Nothing}
+use Rattle.std.specs.Prelude.{None}
 use Rattle.window.specs.declared.state.State.{State}
-use Rattle.window.specs.declared.close.Turned.{Turned}
+use Rattle.window.specs.Outcomes.{Turned}
 use Rattle.lsp.specs.declared.path.Fdi.{Fdi}
 use Rattle.lsp.specs.declared.path.Lsp.{Lsp}
-use Rattle.lsp.specs.declared.path.Signalled.{Signalled}
+use Rattle.lsp.specs.Outcomes.{Signalled}
 use Rattle.lsp.specs.declared.close.Out.{Out}
-use Rattle.lsp.specs.declared.close.Closed.{Closed}
+use Rattle.lsp.specs.Outcomes.{Closed}
 
 -- ---- a new path, and a path with one part changed
 
@@ -128,7 +128,7 @@ closed_of l t =
       handed = t.handed;
       next = after_close l t.state;
     })
-    (record { number = t.number; defect = Clear; out = out_is 0 0 false false; handed = Nothing; next = l })
+    (record { number = t.number; defect = Clear; out = out_is 0 0 false false; handed = None; next = l })
 
 unfoldable pub close_of : Lsp → Closed
 close_of l = closed_of l (turned_of (is_cv l) l.state)

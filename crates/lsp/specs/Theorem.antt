@@ -17,7 +17,7 @@ use Rattle.rules.specs.Rules.{Record, HandsOut}
 use Rattle.rules.specs.Claim.{Right, RightFfd, RightDefect}
 use Rattle.rules.specs.History.{counts_of}
 use Rattle.window.specs.View.{view, defect_in, record_out}
-use Rattle.window.specs.declared.state.Record.TheVariants.{Nothing}
+use Rattle.std.specs.Prelude.{None}
 use Rattle.lsp.specs.Steps.{new_of, receive_of, server_of, close_of, out_by, same}
 use Rattle.lsp.specs.History.{Added, History, counted, slots, server_in, last_fdi, fdi_after, received, closed, signalled_as, limit}
 use Rattle.lsp.specs.declared.path.Lsp.{Lsp}
@@ -64,7 +64,7 @@ pub record Closing (a : Added) (l : Lsp) (h : History) : Type 0 where
   pub number : (close_of l).number ≡ 0
   pub defect : RightDefect (exact h) (suc (slots h)) (defect_in (close_of l).defect)
   pub cv : a.kind ≡ 0 → (r : Record) → ((close_of l).handed ≡ record_out r) ↔ HandsOut 1 (exact h) (suc (slots h)) r
-  pub ffd : (a.kind ≡ 0 → ⊥) → (close_of l).handed ≡ Nothing
+  pub ffd : (a.kind ≡ 0 → ⊥) → (close_of l).handed ≡ None
   pub out : (close_of l).out ≡ out_by (close_of l).defect (server_in h) (fdi_after (life_of a.kind) (suc (slots h)) (last_fdi h)) a.dl
 
 -- at the limit nothing changes

@@ -1,13 +1,16 @@
 // The close of a slot on a path, and what goes out.
 ghost use Rattle.std.specs.Prelude.{◌≡◌};
 ghost use Rattle.lsp.specs.Steps.{faded_of, locv_out_of, out_of, close_of};
+ghost use Rattle.lsp.specs.Outcomes.{closed_in};
 
 use crate::path::{Fdi, Lsp};
-use payload::DefectType;
+use payload::{DefectType, Kind};
+use refusal::Refusal;
 use window::{Defect, Record};
 
-// What goes out of a path: the defect type and location of its FDI and BDI, zero where no defect stands, and what its alarm and its traffic do.
-#[derive(Clone, Copy)]
+// What goes out of a path: the defect type and location of its FDI and BDI, zero where no defect stands, and what its
+// alarm and its traffic do. The type is a number, since `out_of` hands on what a record holds as its FDI's.
+#[derive(Clone, Copy, Debug, PartialEq, Eq, Default)]
 pub struct Out {
     pub dt: u16,
     pub dl: u32,
@@ -15,13 +18,12 @@ pub struct Out {
     pub suppression: bool,
 }
 
-#[derive(Clone, Copy)]
+// What a close answers.
+#[derive(Clone, Copy, Debug, PartialEq, Eq)]
 pub struct Closed {
-    pub number: u8,
     pub defect: Defect,
     pub out: Out,
-    pub handed: Record,
-    pub next: Lsp,
+    pub handed: Option<Record>,
 }
 
 impl Fdi {
@@ -29,17 +31,13 @@ impl Fdi {
     fn faded(self) -> Fdi
         ensures { result ≡ faded_of self }
     {
-        let left = self.left;
-        if left <= 1 {
-            return Fdi {
-                left: 0,
-                dt: 0,
-                dl: 0,
-            };
+        if self.left <= 1 {
+            return Fdi::default();
         }
-        let mut next = self;
-        next.left = left - 1;
-        next
+        Fdi {
+            left: self.left - 1,
+            ..self
+        }
     }
 }
 
@@ -48,27 +46,17 @@ impl Lsp {
     fn locv_out(self) -> Out
         ensures { result ≡ locv_out_of self }
     {
-        if self.server {
-            return Out {
-                dt: DefectType::SERVER,
-                dl: self.dl,
-                alarm: false,
-                suppression: false,
-            };
-        }
-        let fdi = self.fdi;
-        if 1 <= fdi.left {
-            return Out {
-                dt: fdi.dt,
-                dl: fdi.dl,
-                alarm: false,
-                suppression: false,
-            };
-        }
+        let (dt, dl, alarm) = if self.server {
+            (DefectType::Server as u16, self.dl, false)
+        } else if 1 <= self.fdi.left {
+            (self.fdi.dt, self.fdi.dl, false)
+        } else {
+            (DefectType::Locv as u16, self.dl, true)
+        };
         Out {
-            dt: DefectType::LOCV,
-            dl: self.dl,
-            alarm: true,
+            dt,
+            dl,
+            alarm,
             suppression: false,
         }
     }
@@ -77,70 +65,36 @@ impl Lsp {
     pub fn out(self) -> Out
         ensures { result ≡ out_of self }
     {
-        let state = self.state;
-        let defect = state.defect;
-        match defect {
-            Defect::Clear => Out {
-                dt: 0,
-                dl: 0,
-                alarm: false,
-                suppression: false,
-            },
-            Defect::Locv => self.locv_out(),
-            Defect::Mismatch => Out {
-                dt: DefectType::MISMATCH,
-                dl: self.dl,
-                alarm: true,
-                suppression: true,
-            },
-            Defect::Mismerge => Out {
-                dt: DefectType::MISMERGE,
-                dl: self.dl,
-                alarm: true,
-                suppression: true,
-            },
-            Defect::Excess => Out {
-                dt: DefectType::EXCESS,
-                dl: self.dl,
-                alarm: true,
-                suppression: false,
-            },
+        let suppression = match self.state.defect {
+            Defect::Clear => return Out::default(),
+            Defect::Locv => return self.locv_out(),
+            Defect::Mismatch | Defect::Mismerge => true,
+            Defect::Excess => false,
+        };
+        Out {
+            dt: self.state.defect.code(),
+            dl: self.dl,
+            alarm: true,
+            suppression,
         }
     }
 
-    // The close of the open slot: 0, or 9 at the limit, where nothing changes and all else of the answer is zero.
-    pub fn close(self) -> Closed
-        ensures { result ≡ close_of self }
+    #[tactic(auto, unfolding(crate::specs::Steps::close_of))]
+    // The close of the open slot; 9 at the limit.
+    pub fn close(self) -> Result<(Closed, Lsp), Refusal>
+        ensures { closed_in self result ≡ close_of self }
     {
-        let state = self.state;
-        let turned = state.close(self.kind == 0);
-        if turned.number != 0 {
-            return Closed {
-                number: turned.number,
-                defect: Defect::Clear,
-                out: Out {
-                    dt: 0,
-                    dl: 0,
-                    alarm: false,
-                    suppression: false,
-                },
-                handed: Record::Nothing,
-                next: self,
-            };
-        }
-        let after = turned.state;
-        let defect = after.defect;
-        let handed = turned.handed;
-        let fdi = self.fdi;
-        let mut next = self;
-        next.state = after;
-        next.fdi = fdi.faded();
-        Closed {
-            number: 0,
-            defect,
+        let (state, handed) = self.state.close(self.kind == Kind::CV)?;
+        let next = Lsp {
+            state,
+            fdi: self.fdi.faded(),
+            ..self
+        };
+        let closed = Closed {
+            defect: state.defect,
             out: next.out(),
             handed,
-            next,
-        }
+        };
+        Ok((closed, next))
     }
 }

@@ -13,7 +13,6 @@ pub mod sound;
 pub mod write;
 
 pub use close::{Closed, Out};
-pub use path::{Fdi, Lsp, Signalled};
-pub use place::{ClosedHere, close_in_place};
-pub use receive::Received;
+pub use path::{Fdi, Lsp};
+pub use place::close_in_place;
 pub use sound::{availability_holds, code_holds, row_holds, stood_holds};

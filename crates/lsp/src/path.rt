@@ -1,32 +1,28 @@
 // A path's state, a new path's, and the server signal.
 ghost use Rattle.std.specs.Prelude.{◌≡◌};
 ghost use Rattle.lsp.specs.Steps.{new_of, server_of};
+ghost use Rattle.lsp.specs.Outcomes.{signalled_in};
 
+use refusal::Refusal;
 use window::State;
 
-// An FDI received and the closes until it is gone; all zero where none stands.
-#[derive(Clone, Copy)]
+// An FDI received and the closes until it is gone; all zero where none stands, as the image has it: any octets read as a path.
+#[derive(Clone, Copy, Debug, PartialEq, Eq, Default)]
 pub struct Fdi {
     pub left: u16,
     pub dt: u16,
     pub dl: u32,
 }
 
-#[derive(Clone, Copy)]
+#[derive(Clone, Copy, Debug, PartialEq, Eq)]
 pub struct Lsp {
-    // 0 for CV, else the rate code; the expected TTSI; the local defect location.
+    // 0 for CV, else the rate code, and any other number where `new` was given one; the expected TTSI; the local defect location.
     pub kind: u8,
     pub ttsi: [u8; 20],
     pub dl: u32,
     pub state: State,
     pub server: bool,
     pub fdi: Fdi,
-}
-
-#[derive(Clone, Copy)]
-pub struct Signalled {
-    pub number: u8,
-    pub next: Lsp,
 }
 
 impl Lsp {
@@ -40,26 +36,20 @@ impl Lsp {
             dl,
             state: State::fresh(),
             server: false,
-            fdi: Fdi {
-                left: 0,
-                dt: 0,
-                dl: 0,
-            },
+            fdi: Fdi::default(),
         }
     }
 
-    // The server signal on (1) or off (0): 0, or 12 for any other value.
-    pub fn server(self, value: u8) -> Signalled
-        ensures { result ≡ server_of self value }
+    // The server signal on (1) or off (0); 12 for any other value.
+    pub fn server(self, value: u8) -> Result<Lsp, Refusal>
+        ensures { signalled_in self result ≡ server_of self value }
     {
         if 1 < value {
-            return Signalled {
-                number: 12,
-                next: self,
-            };
+            return Err(Refusal::Value);
         }
-        let mut next = self;
-        next.server = value == 1;
-        Signalled { number: 0, next }
+        Ok(Lsp {
+            server: value == 1,
+            ..self
+        })
     }
 }

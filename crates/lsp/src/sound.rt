@@ -1,73 +1,36 @@
 // Whether a path obeys the rules of the image, as its fields stand.
-ghost use Rattle.std.specs.Prelude.{◌≡◌, ◌-◌, length, take};
-ghost use Rattle.payload.specs.Test.{all_zero};
-ghost use Rattle.lsp.specs.Sound.{within, never_were, is_row, is_code, is_stood, is_availability, is_fdi, sound};
+ghost use Rattle.std.specs.Prelude.{◌≡◌, eqb, leb, take};
+ghost use Rattle.std.specs.List.{list_all};
+ghost use Rattle.lsp.specs.Sound.{never_were, is_row, is_code, is_stood, is_availability, is_fdi, sound};
 
 use crate::path::{Fdi, Lsp};
 use payload::{DefectType, Kind, is_ttsi};
 use window::{Availability, Defect, LIMIT};
 
-fn wide(x: u8) -> u64
-    ensures { result ≡ x }
-{
-    x as u64
-}
-
-// The difference, or 0 where there is none.
-fn less(a: u64, b: u64) -> u64
-    ensures { result ≡ a - b }
-{
-    if a < b {
-        return 0;
-    }
-    a - b
-}
-
 // No count is past the cut.
 fn counts_hold(cut: u8, row: &[u8]) -> bool
-    requires { length row.now ≡ 11 }
-    ensures { result ≡ within cut row.now }
+    ensures { result ≡ list_all (λ x. leb x cut) row.now }
 {
-    let mut i = 0;
-    while i < 11 {
-        if cut < row[i] {
-            return false;
-        }
-        i += 1;
-    }
-    true
+    row.iter().all(|&x| x <= cut)
 }
 
 // A slot that never was has no count.
 fn never_were_empty(closed: u64, row: &[u8]) -> bool
-    requires { length row.now ≡ 11 }
-    ensures { result ≡ all_zero (take (never_were closed) row.now) }
+    ensures { result ≡ list_all (λ x. eqb x 0) (take (never_were closed) row.now) }
 {
-    let n = less(10, closed) as usize;
-    let mut i = 0;
-    while i < n {
-        if row[i] != 0 {
-            return false;
-        }
-        i += 1;
-    }
-    true
+    let n = 10u64.saturating_sub(closed) as usize;
+    row.iter().take(n).all(|&x| x == 0)
 }
 
 // Counts of a row.
 const ROW: usize = 11;
 
+#[tactic(auto, using(crate::proofs::Rows::within_all, crate::proofs::Rows::zeros_all))]
 // Eleven counts, none past the cut and none in a slot that never was.
 pub fn row_holds(cut: u8, closed: u64, row: &[u8]) -> bool
     ensures { result ≡ is_row cut closed row.now }
 {
-    if row.len() != ROW {
-        return false;
-    }
-    if !counts_hold(cut, row) {
-        return false;
-    }
-    never_were_empty(closed, row)
+    row.len() == ROW && counts_hold(cut, row) && never_were_empty(closed, row)
 }
 
 // A defect stands exactly when it has stood at some close.
@@ -75,19 +38,17 @@ pub fn code_holds(defect: Defect, stood: u8) -> bool
     ensures { result ≡ is_code defect stood }
 {
     if defect.stands() {
-        return 1 <= stood;
+        1 <= stood
+    } else {
+        stood == 0
     }
-    stood == 0
 }
 
 // Before slot 3 closes nothing stands.
 pub fn stood_holds(closed: u64, stood: u8) -> bool
     ensures { result ≡ is_stood closed stood }
 {
-    if 11 < stood {
-        return false;
-    }
-    wide(stood) <= less(closed, 2)
+    stood <= 11 && u64::from(stood) <= closed.saturating_sub(2)
 }
 
 // A CV path whose defect has stood eleven closes is unavailable; no FFD path is.
@@ -95,79 +56,42 @@ pub fn availability_holds(kind: u8, closed: u64, stood: u8, availability: Availa
     ensures { result ≡ is_availability kind closed stood availability }
 {
     match availability {
-        Availability::Available => {
-            if 1 <= kind {
-                return true;
-            }
-            stood <= 10
-        }
+        Availability::Available => 1 <= kind || stood <= 10,
         Availability::Unavailable { since } => {
-            if kind != 0 {
-                return false;
-            }
-            if since < 1 {
-                return false;
-            }
-            since <= less(closed, 12)
+            kind == 0 && 1 <= since && since <= closed.saturating_sub(12)
         }
     }
 }
 
 impl Fdi {
-    // On a path of the kind: no more closes left than an FDI received now has; nothing of one that is gone, and a defect type of one that stands.
+    // On a path of the kind: no more closes left than an FDI received now has; nothing of one that is gone, and a defect
+    // type of one that stands.
     pub fn holds(self, kind: u8) -> bool
         ensures { result ≡ is_fdi kind self }
     {
-        if Kind::life(kind) + 1 < self.left {
-            return false;
-        }
-        if self.left == 0 {
-            if self.dt != 0 {
-                return false;
+        self.left <= Kind::life(kind) + 1
+            && match self.left {
+                0 => self.dt == 0 && self.dl == 0,
+                _ => DefectType::is_defect(self.dt),
             }
-            return self.dl == 0;
-        }
-        DefectType::is_defect(self.dt)
     }
 }
 
 impl Lsp {
+    #[tactic(auto, unfolding(crate::specs::Sound::sound))]
     // Whether restoring may accept the path. That its TTSI differs from the others' is for the table to see.
     pub fn is_sound(self) -> bool
         ensures { result ≡ sound self }
     {
-        if !Kind::is_kind(self.kind) {
-            return false;
-        }
-        let ttsi = self.ttsi;
-        if !is_ttsi(&ttsi) {
-            return false;
-        }
         let state = self.state;
-        let closed = state.closed;
-        if LIMIT < closed {
-            return false;
-        }
-        let e = state.e;
-        if !row_holds(12, closed, &e) {
-            return false;
-        }
-        let u = state.u;
-        if !row_holds(1, closed, &u) {
-            return false;
-        }
-        let defect = state.defect;
-        if !code_holds(defect, state.stood) {
-            return false;
-        }
-        if !stood_holds(closed, state.stood) {
-            return false;
-        }
-        let availability = state.availability;
-        if !availability_holds(self.kind, closed, state.stood, availability) {
-            return false;
-        }
-        let fdi = self.fdi;
-        fdi.holds(self.kind)
+        Kind::is_kind(self.kind)
+            && is_ttsi(&self.ttsi)
+            && state.closed <= LIMIT
+            && row_holds(12, state.closed, &state.e)
+            && row_holds(1, state.closed, &state.u)
+            && code_holds(state.defect, state.stood)
+            && stood_holds(state.closed, state.stood)
+            && availability_holds(self.kind, state.closed, state.stood, state.availability)
+            && self.fdi.holds(self.kind)
     }
 }

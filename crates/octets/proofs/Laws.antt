@@ -1,15 +1,15 @@
 -- Octets and numbers are inverse, at every width. Assumes nothing.
-use mathlib.Core.Path.{◌≡◌, refl, sym, ap, ◌∙◌}
+use mathlib.Core.Path.{◌≡◌, refl, sym, ap, ap₂, ◌∙◌}
 use mathlib.Core.List.{List, [], ◌∷◌, ◌++◌, append_assoc, append-nil}
-use Prim.Native.Nat.{ℕ, zero, suc, ◌+◌, ◌*◌, ◌/◌, ◌%◌, ◌^◌, ◌≤◌, ◌<◌}
-use native.Mathlib.Nat.{pow-suc, zero-add, add-zero, add-suc, suc-add}
+use Prim.Native.Nat.{ℕ, zero, suc, ◌+◌, ◌-◌, ◌*◌, ◌/◌, ◌%◌, ◌^◌, ◌≤◌, ◌<◌}
+use native.Mathlib.Nat.{pow-suc, mul_comm, div-div-eq-div-mul, zero-add, add-zero, add-suc, suc-add}
 use native.Mathlib.Numerals.{add-one}
 use native.Mathlib.Omega.{arith}
-use lib.ListN.{length, length-append}
-use lib.Seq.{take-length, drop-length}
+use lib.ListN.{length, get_or, length-append}
+use Rattle.std.specs.Int.{byte_at, byte_worth, bytes_high_first, sum_through}
 use borrow.Author.Tests.{le-leb}
 use Rattle.payload.specs.Law.{Octets}
-use Rattle.octets.specs.Number.{octets, number_from, number_of, over, read_of}
+use Rattle.octets.specs.Number.{octets, number_from, number_of, read_of}
 use Rattle.octets.specs.Law.{Inverse}
 
 pub length-octets : (w x : ℕ) → length (octets w x) ≡ w
@@ -53,12 +53,56 @@ number_from_lt (b ∷ s) k a l h =
 pub number_lt : (s : List ℕ) → Octets s → number_of s < 256 ^ length s
 number_lt s h = rw zero-add at (number_from_lt s 0 0 (omega arith) h)
 
--- as many octets over as many
-pub over_same : (s t : List ℕ) → length s ≡ length t → over s t ≡ s
-over_same s t h = rw (← h, take-length, h, drop-length, append-nil)
-
 pub read_few : (s : List ℕ) → length s ≤ 8 → read_of s ≡ number_of s
 read_few s h = rw (le-leb (length s) 8 h)
+
+-- ---- the library's big-endian octets of a number, and the number of such octets
+
+pub octets_be : (w x : ℕ) → bytes_high_first w x ≡ octets w x
+unfolding octets
+octets_be zero x = refl
+octets_be (suc w) x = last w x ∙ ap (λ (s : List ℕ). s ++ (x % 256 ∷ [])) (octets_be w (x / 256))
+  where
+    higher : (k x : ℕ) → byte_at (suc k) x ≡ byte_at k (x / 256)
+    higher zero x = omega arith
+    higher (suc k) x = ap (λ (y : ℕ). y % 256) (ap (λ (m : ℕ). x / m) (pow-suc 256 (suc k) ∙ mul_comm (256 ^ suc k) 256) ∙ sym (div-div-eq-div-mul x 256 (256 ^ suc k)))
+
+    last : (k x : ℕ) → bytes_high_first (suc k) x ≡ bytes_high_first k (x / 256) ++ (x % 256 ∷ [])
+    last zero x = refl
+    last (suc k) x = λ i. higher k x i ∷ last k x i
+
+number_from_front : (s : List ℕ) (a : ℕ) → number_from a s ≡ a * 256 ^ length s + number_of s
+unfolding number_from
+number_from_front [] a = omega arith
+number_from_front (b ∷ s) a =
+    rw pow-suc (step a b (256 ^ length s) _ _ (number_of s) (number_from_front s (a * 256 + b)) (number_from_front s (0 * 256 + b)))
+  where
+    step : (a b p x y z : ℕ) → x ≡ (a * 256 + b) * p + z → y ≡ (0 * 256 + b) * p + z → x ≡ a * (p * 256) + y
+    step a b p x y z e f = grind (arith, e, f)
+
+sum_front : (f : ℕ → ℕ) (k : ℕ) → sum_through f (suc k) ≡ f 0 + sum_through (λ i. f (suc i)) k
+sum_front f zero = refl
+sum_front f (suc k) = omega (arith, sum_front f k)
+
+worth : (k b : ℕ) → byte_worth k b ≡ b * 256 ^ k
+worth zero b = omega arith
+worth (suc k) b = refl
+
+pub number_be : (s : List ℕ) (k : ℕ) → length s ≡ suc k → sum_through (λ i. byte_worth (k - i) (get_or s i 0)) k ≡ number_of s
+unfolding number_from
+number_be [] k h = absurd (omega arith)
+number_be (b ∷ []) zero h = sym (zero-add b)
+number_be (b ∷ []) (suc k) h = absurd (omega arith)
+number_be (b ∷ c ∷ s) zero h = absurd (omega arith)
+number_be (b ∷ c ∷ s) (suc k) h =
+    let n : suc k ≡ length (c ∷ s) = omega arith in
+    let none : suc k - 0 ≡ suc k = omega arith in
+    let one : (i : ℕ) → suc k - suc i ≡ k - i = λ i. omega arith in
+    let lead : b ≡ 0 * 256 + b = omega arith in
+    sum_front (λ i. byte_worth (suc k - i) (get_or (b ∷ c ∷ s) i 0)) k
+    ∙ (λ j. byte_worth (none j) b + sum_through (λ i. byte_worth (one i j) (get_or (c ∷ s) i 0)) k)
+    ∙ ap₂ ◌+◌ (worth (suc k) b ∙ λ j. lead j * 256 ^ n j) (number_be (c ∷ s) k (omega arith))
+    ∙ sym (number_from_front (c ∷ s) (0 * 256 + b))
 
 pub inverse : Inverse
 inverse = record { number_back = number_octets; octets_back = octets_number }

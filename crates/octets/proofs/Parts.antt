@@ -11,9 +11,9 @@ use lib.Seq.{take_at, drop_at, drop-drop, drop-append-add, get_or-take, get_or-d
 use borrow.Author.Tests.{leb-true, leb-false}
 use borrow.Rule.Slice.PartMut.{mid_of, put_mid}
 use Rattle.payload.specs.Law.{Octets}
-use Rattle.octets.specs.Number.{octets, read_of, over}
+use Rattle.octets.specs.Number.{octets, read_of}
 use Rattle.octets.specs.Parts.{joined, part, number_at, octet_at, cut_from, total, laid}
-use Rattle.octets.proofs.Laws.{length-octets, octets_number, number_lt, over_same, read_few}
+use Rattle.octets.proofs.Laws.{length-octets, octets_number, number_lt, read_few}
 
 cut : List ℕ → List ℕ → List (List ℕ)
 cut [] s = []
@@ -45,10 +45,6 @@ parts_joined ps = sym (cut_from_lem (map length ps) (joined ps) 0) ∙ cut_joine
 pub length-joined : (ps : List (List ℕ)) → length (joined ps) ≡ total (map length ps)
 length-joined [] = refl
 length-joined (p ∷ ps) = length-append p (joined ps) ∙ ap (λ (n : ℕ). length p + n) (length-joined ps)
-
-pub joined_append : (ps qs : List (List ℕ)) → joined (ps ++ qs) ≡ joined ps ++ joined qs
-joined_append [] qs = refl
-joined_append (p ∷ ps) qs = ap (λ (l : List ℕ). p ++ l) (joined_append ps qs) ∙ sym (append_assoc p (joined ps) (joined qs))
 
 -- ---- laying
 
@@ -92,20 +88,6 @@ lays_all {s = s} {a = a} {ps = ps} l h =
 pub put_laid : (s m : List ℕ) (a k : ℕ) → k ≡ length m → put_mid a k s m ≡ laid s a m
 put_laid s m a k e = rw (e, drop-drop)
 
--- octets copied over a part that was lent, of just their length
-pub copy_laid : (s f m : List ℕ) (a k : ℕ) → k ≡ length f → a + length f ≤ length s → m ≡ over f (mid_of a k s) → put_mid a k s m ≡ laid s a f
-copy_laid s f m a k e h c =
-    let n : length f ≡ length (mid_of a k s) = simp (length-take, length-drop) (omega arith) in
-    rw (c, over_same f (mid_of a k s) n) (put_laid s f a k e)
-
--- a number put into a part
-pub put_number_laid : (s m : List ℕ) (a w x : ℕ) → a + w ≤ length s → m ≡ octets (length (mid_of a w s)) x
-    → (put_mid a w s m ≡ laid s a (octets w x)) × (length (put_mid a w s m) ≡ length s)
-put_number_laid s m a w x h e =
-    let n : length (mid_of a w s) ≡ w = simp (length-take, length-drop) (omega arith) in
-    let p : put_mid a w s m ≡ laid s a (octets w x) = rw (e, n) (put_laid s (octets w x) a w (sym (length-octets w x))) in
-    (p, ap length p ∙ length-laid s a (octets w x) (omega (arith, length-octets w x)))
-
 -- ---- one part by its place
 
 module _ (s : List ℕ) (a w : ℕ) where
@@ -120,10 +102,6 @@ module _ (s : List ℕ) (a w : ℕ) where
       go false e =
           let h : length (part s a w) ≤ i = omega (arith, leb-false (suc i) w e, length-take w (drop a s)) in
           rw (get_or-eq_default (part s a w) 0 h) (omega arith)
-
-  -- what the reader answers of a part
-  pub read_part : a + w ≤ length s → w ≤ 8 → (x : ℕ) → x ≡ read_of (part s a w) → x ≡ number_at s a w
-  read_part h k x e = e ∙ read_few (part s a w) (omega (arith, length_part h))
 
   pub number_part_lt : a + w ≤ length s → Octets s → number_at s a w < 256 ^ w
   number_part_lt h o = rw (length_part h) at (number_lt (part s a w) (part_octets o))

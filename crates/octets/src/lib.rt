@@ -6,24 +6,19 @@
 ghost use Rattle.std.specs.Prelude.{◌≡◌, length};
 ghost use Rattle.octets.specs.Number.{octets, read_of, over};
 
-fn wide(b: u8) -> u64
-    ensures { result ≡ b }
-{
-    b as u64
-}
+// The most octets that a number has.
+const MOST: usize = 8;
 
 // The number that at most eight octets stand for; 0 where there are more.
 pub fn number(s: &[u8]) -> u64
     ensures { result ≡ read_of s.now }
 {
-    if 8 < s.len() {
+    if MOST < s.len() {
         return 0;
     }
-    let mut x: u64 = 0;
-    let mut i = 0;
-    while i < s.len() {
-        x = x * 256 + wide(s[i]);
-        i += 1;
+    let mut x = 0;
+    for &b in s {
+        x = x * 256 + u64::from(b);
     }
     x
 }
@@ -33,11 +28,10 @@ pub fn put_number(s: &mut [u8], x: u64)
     ensures { s.new ≡ octets (length s.old) x }
 {
     let mut rest = x;
-    let mut i = s.len();
-    while 0 < i {
-        i -= 1;
+    // By index: of `iter_mut().rev()` a proof doesn't learn what the slice ends as.
+    for i in (0..s.len()).rev() {
         s[i] = (rest % 256) as u8;
-        rest = rest / 256;
+        rest /= 256;
     }
 }
 
@@ -45,13 +39,6 @@ pub fn put_number(s: &mut [u8], x: u64)
 pub fn copy(from: &[u8], to: &mut [u8])
     ensures { to.new ≡ over from.now to.old }
 {
-    let mut n = to.len();
-    if from.len() < n {
-        n = from.len();
-    }
-    let mut i = 0;
-    while i < n {
-        to[i] = from[i];
-        i += 1;
-    }
+    let n = from.len().min(to.len());
+    to[..n].copy_from_slice(&from[..n]);
 }

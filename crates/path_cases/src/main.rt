@@ -2,7 +2,6 @@
 // random run, held close by close against a plain recount of the same packets.
 #![tactic(auto)]
 
-mod kept;
 mod limit;
 mod lives;
 mod long;
@@ -11,19 +10,20 @@ mod outgoing;
 mod paths;
 mod receiving;
 mod recount;
-mod same;
 mod seen;
+mod shown;
 mod source;
 mod tally;
-mod text;
 mod writing;
 
-fn main() {
-    numbers::claims();
-    outgoing::claims();
-    lives::claims();
-    receiving::claims();
-    writing::claims();
-    limit::claims();
-    long::claims();
+use std::io;
+
+fn main(rt: HostRuntime) -> io::Result<()> {
+    numbers::claims(&rt)?;
+    outgoing::claims(&rt)?;
+    lives::claims(&rt)?;
+    receiving::claims(&rt)?;
+    writing::claims(&rt)?;
+    limit::claims(&rt)?;
+    long::claims(&rt)
 }

@@ -1,63 +1,93 @@
 // What goes out at the close of slot 3, by what came in it.
-use crate::{paths, text};
-use lsp::{Closed, Out};
+use crate::{paths, shown};
+use lsp::{Lsp, Out};
+use std::{fmt, io};
+use window::Defect;
 
-fn show(out: Out) {
-    text::words(b", DT, DL, alarm, suppression:");
-    text::hex(out.dt as u32, 4);
-    text::hex(out.dl, 8);
-    text::claim_two(b"", out.alarm as u64, out.suppression as u64);
+// What came in slot 3 of a CV path that had no packet before it: CV packets of its own and of another TTSI, FDIs, and the server signal.
+#[derive(Clone, Copy)]
+pub(crate) struct Came {
+    pub own: u32,
+    pub other: u32,
+    pub fdis: u32,
+    pub server: u8,
 }
 
-fn answer(c: Closed) {
-    let defect = c.defect;
-    let out = c.out;
-    text::defect(defect);
-    show(out);
+impl Came {
+    // The path, slot 3 open.
+    pub(crate) fn path(self) -> Lsp {
+        let start = paths::silent(paths::path(0), 2);
+        let own = paths::fed(start, &paths::cv(true), self.own);
+        let other = paths::fed(own, &paths::cv(false), self.other);
+        paths::server(paths::all_told(other, self.fdis), self.server)
+    }
 }
 
-pub(crate) fn came(own: u32, other: u32, fdis: u32, server: u8) {
-    text::words(b"slot 3 with CV, CV of another TTSI, FDI, server signal");
-    text::number(own as u64);
-    text::number(other as u64);
-    text::number(fdis as u64);
-    text::number(server as u64);
+impl fmt::Display for Came {
+    fn fmt<W: fmt::Write>(&self, f: &mut fmt::Formatter<W>) -> fmt::Result {
+        let Came {
+            own,
+            other,
+            fdis,
+            server,
+        } = *self;
+        write!(
+            f,
+            "slot 3 with CV, CV of another TTSI, FDI, server signal {own} {other} {fdis} {server}"
+        )
+    }
 }
 
-fn claim(own: u32, other: u32, fdis: u32, server: u8) {
-    let path = paths::server(paths::early(own, other, fdis), server);
-    came(own, other, fdis, server);
-    text::words(b":");
-    answer(path.close());
+fn claim(rt: &impl Print, own: u32, other: u32, fdis: u32, server: u8) -> io::Result<()> {
+    let came = Came {
+        own,
+        other,
+        fdis,
+        server,
+    };
+    let (defect, out) = match came.path().close() {
+        Ok((c, _)) => (c.defect, c.out),
+        Err(_) => (Defect::Clear, Out::default()),
+    };
+    let defect = shown::defect(defect);
+    let Out {
+        dt,
+        dl,
+        alarm,
+        suppression,
+    } = out;
+    let alarm = u8::from(alarm);
+    let suppression = u8::from(suppression);
+    println!(rt;
+        "{came}: {defect}, DT, DL, alarm, suppression: {dt:04x} {dl:08x} {alarm} {suppression}"
+    )
 }
 
 // Without an FDI, with one, and with the server signal too.
-fn claims_of(own: u32, other: u32) {
-    claim(own, other, 0, 0);
-    claim(own, other, 1, 0);
-    claim(own, other, 1, 1);
+fn claims_of(rt: &impl Print, own: u32, other: u32) -> io::Result<()> {
+    claim(rt, own, other, 0, 0)?;
+    claim(rt, own, other, 1, 0)?;
+    claim(rt, own, other, 1, 1)
 }
 
-fn claim_server(value: u8) {
-    let s = paths::path(0).server(value);
-    let next = s.next;
-    text::claim_three(
-        b"server value, answer, signal on:",
-        value as u64,
-        s.number as u64,
-        next.server as u64,
-    );
+fn claim_server(rt: &impl Print, value: u8) -> io::Result<()> {
+    let (number, path) = match paths::path(0).server(value) {
+        Ok(path) => (0, path),
+        Err(refusal) => (u8::from(refusal), paths::path(0)),
+    };
+    let on = u8::from(path.server);
+    println!(rt; "server value, answer, signal on: {value} {number} {on}")
 }
 
-pub(crate) fn claims() {
-    claims_of(0, 0);
-    claim(0, 0, 0, 1);
-    claim(0, 0, 2, 0);
-    claims_of(0, 1);
-    claims_of(1, 1);
-    claims_of(5, 0);
-    claims_of(3, 0);
-    claim_server(0);
-    claim_server(1);
-    claim_server(2);
+pub(crate) fn claims(rt: &impl Print) -> io::Result<()> {
+    claims_of(rt, 0, 0)?;
+    claim(rt, 0, 0, 0, 1)?;
+    claim(rt, 0, 0, 2, 0)?;
+    for (own, other) in [(0, 1), (1, 1), (5, 0), (3, 0)] {
+        claims_of(rt, own, other)?;
+    }
+    for value in 0..3 {
+        claim_server(rt, value)?;
+    }
+    Ok(())
 }

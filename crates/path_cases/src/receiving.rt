@@ -1,8 +1,23 @@
 // What a path answers to a payload, and what of it the payload changes.
+use crate::paths;
 use crate::paths::Payload;
-use crate::{paths, same, text};
-use lsp::{Lsp, Received};
+use lsp::Lsp;
 use payload::FunctionType;
+use std::io;
+
+// The path's kind, and the payload's type and rate.
+const CLAIMS: [(u8, &str, FunctionType, u8); 10] = [
+    (0, "CV", FunctionType::Cv, 0),
+    (0, "FFD rate 1", FunctionType::Ffd, 1),
+    (0, "FFD rate 3", FunctionType::Ffd, 3),
+    (0, "FDI", FunctionType::Fdi, 0),
+    (0, "BDI", FunctionType::Bdi, 0),
+    (3, "CV", FunctionType::Cv, 0),
+    (3, "FFD rate 3", FunctionType::Ffd, 3),
+    (3, "FFD rate 4", FunctionType::Ffd, 4),
+    (3, "FDI", FunctionType::Fdi, 0),
+    (3, "BDI", FunctionType::Bdi, 0),
+];
 
 // A path of the kind whose open slot has no packet, with LOCV and an FDI standing and the server signal on.
 fn busy(kind: u8) -> Lsp {
@@ -10,105 +25,62 @@ fn busy(kind: u8) -> Lsp {
     paths::server(paths::told(path, 1), 1)
 }
 
-fn wide(x: u8) -> u64 {
-    x as u64
+// The rest of a line that says what comes to a path of the kind.
+fn receive(rt: &impl Print, kind: u8, p: &[u8]) -> io::Result<()> {
+    let before = busy(kind);
+    let (number, after) = match before.receive(p) {
+        Ok((_, after)) => (0, after),
+        Err(refusal) => (u8::from(refusal), before),
+    };
+    let e = after.state.e[10];
+    let u = after.state.u[10];
+    let unchanged = u8::from(after == before);
+    println!(rt; ", answer, E and U of the open slot, path unchanged: {number} {e} {u} {unchanged}")
 }
 
-// How many packets the open slot has.
-fn counts(path: Lsp) {
-    let state = path.state;
-    let e = state.e;
-    let u = state.u;
-    text::number(wide(e[10]));
-    text::number(wide(u[10]));
-}
-
-fn show(before: Lsp, r: Received) {
-    let found = r.found;
-    let next = r.next;
-    text::words(b", answer, E and U of the open slot, path unchanged:");
-    text::number(found.number() as u64);
-    counts(next);
-    text::claim(b"", same::paths(before, next) as u64);
-}
-
-fn receive(kind: u8, p: &[u8]) {
-    let path = busy(kind);
-    show(path, path.receive(p));
-}
-
-fn name(kind: u8, ty: u8) {
-    text::words(b"kind");
-    text::number(kind as u64);
-    match ty {
-        FunctionType::CV => text::words(b" receives CV"),
-        FunctionType::FFD => text::words(b" receives FFD"),
-        FunctionType::FDI => text::words(b" receives FDI"),
-        _ => text::words(b" receives BDI"),
+fn claims_of(rt: &impl Print, own: bool) -> io::Result<()> {
+    let ttsi = if own { "" } else { " of another TTSI" };
+    for (kind, name, ty, rate) in CLAIMS {
+        print!(rt; "kind {kind} receives {name}{ttsi}")?;
+        receive(rt, kind, &paths::packet(ty, own, rate, 2))?;
     }
+    Ok(())
 }
 
-fn claim(kind: u8, ty: u8, rate: u8, own: bool) {
-    let p = paths::packet(ty, own, rate, 2);
-    name(kind, ty);
-    if rate != 0 {
-        text::words(b" rate");
-        text::number(rate as u64);
-    }
-    if !own {
-        text::words(b" of another TTSI");
-    }
-    receive(kind, &p);
+// The first 43 octets.
+// A function of its own, for beside the runtime's type the search for its proof reaches its limit.
+fn cut(p: &Payload) -> &[u8] {
+    &p[..43]
 }
 
-fn claims_of(own: bool) {
-    claim(0, FunctionType::CV, 0, own);
-    claim(0, FunctionType::FFD, 1, own);
-    claim(0, FunctionType::FFD, 3, own);
-    claim(0, FunctionType::FDI, 0, own);
-    claim(0, FunctionType::BDI, 0, own);
-    claim(3, FunctionType::CV, 0, own);
-    claim(3, FunctionType::FFD, 3, own);
-    claim(3, FunctionType::FFD, 4, own);
-    claim(3, FunctionType::FDI, 0, own);
-    claim(3, FunctionType::BDI, 0, own);
-}
-
-// A CV with the bits of x turned at an offset, and in BIP16 too if that is to be right.
-fn turned(at: usize, x: u8, right: bool) -> Payload {
+// A CV with the bits of x turned at an offset.
+fn turned(at: usize, x: u8) -> Payload {
     let mut p = paths::cv(true);
-    if at < 44 {
-        p[at] = p[at] ^ x;
-    }
-    if right {
-        p[42 + at % 2] = p[42 + at % 2] ^ x;
+    if at < p.len() {
+        p[at] ^= x;
     }
     p
 }
 
-fn claim_turned(at: usize, x: u8, right: bool) {
-    let p = turned(at, x, right);
-    text::words(b"kind 0 receives CV, at offset");
-    text::number(at as u64);
-    text::words(b" turned by");
-    text::number(x as u64);
-    if right {
-        text::words(b", BIP16 made right");
-    }
-    receive(0, &p);
+// And in BIP16 too.
+fn turned_right(at: usize, x: u8) -> Payload {
+    let mut p = turned(at, x);
+    p[42 + at % 2] ^= x;
+    p
 }
 
-fn claim_cut() {
-    let p = paths::cv(true);
-    text::words(b"kind 0 receives CV, cut to 43 octets");
-    receive(0, &p[0..43]);
+fn claim_turned(rt: &impl Print, at: usize, x: u8) -> io::Result<()> {
+    print!(rt; "kind 0 receives CV, at offset {at} turned by {x}, BIP16 made right")?;
+    receive(rt, 0, &turned_right(at, x))
 }
 
-pub(crate) fn claims() {
-    claims_of(true);
-    claims_of(false);
-    claim_cut();
-    claim_turned(43, 1, false);
-    claim_turned(0, 4, true);
-    claim_turned(41, 1, true);
+pub(crate) fn claims(rt: &impl Print) -> io::Result<()> {
+    claims_of(rt, true)?;
+    claims_of(rt, false)?;
+    print!(rt; "kind 0 receives CV, cut to 43 octets")?;
+    receive(rt, 0, cut(&paths::cv(true)))?;
+    print!(rt; "kind 0 receives CV, at offset 43 turned by 1")?;
+    receive(rt, 0, &turned(43, 1))?;
+    claim_turned(rt, 0, 4)?;
+    claim_turned(rt, 41, 1)
 }

@@ -1,138 +1,104 @@
-// The paper's rules over the kept packets of a run, each by looking back from the slot it is about. Nothing here is shared with the
-// path's own state: it keeps every count as it came.
-use crate::kept;
-use crate::kept::{Marks, Packets, SLOTS};
-use crate::text::add;
+// The paper's rules over the slots of a run, each by looking back from the slot it is about. Nothing here is shared with the path's own
+// state: it keeps every count as it came.
+use window::Defect;
 
-// What the sums over three slots say of a slot: an entry by its kind, or one of these.
-pub(crate) const NONE: u8 = 0;
-
-pub(crate) const MISMATCH: u8 = 1;
-
-pub(crate) const MISMERGE: u8 = 2;
-
-pub(crate) const LOCV: u8 = 3;
-
-pub(crate) const EXCESS: u8 = 4;
-
-const EXIT: u8 = 5;
-
-// The sum over the last k slots up to n; there is no slot before 1.
-fn sum(a: &Packets, n: usize, k: usize) -> u32 {
-    let mut s: u32 = 0;
-    for i in 0..k {
-        if i < n {
-            s = add(s, kept::packets(a, n - i));
-        }
-    }
-    s
+// The packets that came in a slot, with the expected TTSI and with others, and what the recount says of its close.
+#[derive(Clone, Copy)]
+pub(crate) struct Slot {
+    pub e: u16,
+    pub u: u16,
+    pub defect: Defect,
+    pub is_out: bool,
 }
 
-// Entry, exit or neither.
-fn said(e: &Packets, u: &Packets, n: usize) -> u8 {
-    if n < 3 {
-        return NONE;
+// What the sums over three slots say of a slot, where it is an entry or an exit.
+enum Said {
+    Entry(Defect),
+    Exit,
+}
+
+// The last k slots; there is no slot before the first.
+fn last(past: &[Slot], k: usize) -> &[Slot] {
+    &past[past.len().saturating_sub(k)..]
+}
+
+// The sums over the last k slots.
+fn sums(past: &[Slot], k: usize) -> (u32, u32) {
+    last(past, k).iter().fold((0u32, 0u32), |(e, u), slot| {
+        (
+            e.saturating_add(u32::from(slot.e)),
+            u.saturating_add(u32::from(slot.u)),
+        )
+    })
+}
+
+fn says(past: &[Slot]) -> Option<Said> {
+    if past.len() < 3 {
+        return None;
     }
-    let e3 = sum(e, n, 3);
-    if sum(u, n, 3) > 0 {
-        return if e3 == 0 { MISMATCH } else { MISMERGE };
-    }
-    match e3 {
-        0 => LOCV,
-        1 => NONE,
-        2..=4 => EXIT,
-        _ => EXCESS,
+    match sums(past, 3) {
+        (0, 0) => Some(Said::Entry(Defect::Locv)),
+        (1, 0) => None,
+        (2..=4, 0) => Some(Said::Exit),
+        (_, 0) => Some(Said::Entry(Defect::Excess)),
+        (0, _) => Some(Said::Entry(Defect::Mismatch)),
+        _ => Some(Said::Entry(Defect::Mismerge)),
     }
 }
 
-// The kind that stands after n: that of the latest entry, unless an exit came after it.
-fn kind(e: &Packets, u: &Packets, n: usize) -> u8 {
-    let mut m = n;
-    while m > 0 {
-        let s = said(e, u, m);
-        if s == EXIT {
-            return NONE;
-        }
-        if s != NONE {
-            return s;
-        }
-        m -= 1;
-    }
-    NONE
-}
-
-// Whether the defect stood at all eleven closes m-10 to m.
-fn stood_eleven(kinds: &Marks, m: usize) -> bool {
-    for i in 0..11 {
-        if m <= i {
-            return false;
-        }
-        if kept::mark(kinds, m - i) == NONE {
-            return false;
+// The defect that stands after the last slot: that of the latest entry, unless an exit came after it. A slot is told by the slots up to
+// it, so the parts of the run are gone back over, here and below, and not its slots.
+fn defect(past: &[Slot]) -> Defect {
+    for n in (1..=past.len()).rev() {
+        match says(&past[..n]) {
+            Some(Said::Entry(defect)) => return defect,
+            Some(Said::Exit) => return Defect::Clear,
+            None => {}
         }
     }
-    true
+    Defect::Clear
 }
 
-// Whether the close of j had no defect, 9 to 11 expected packets over ten slots, and no other.
-fn clears(e: &Packets, u: &Packets, kinds: &Marks, j: usize) -> bool {
-    if kept::mark(kinds, j) != NONE {
-        return false;
-    }
-    let e10 = sum(e, j, 10);
-    9 <= e10 && e10 <= 11 && sum(u, j, 10) == 0
+// Whether the defect stood at the last eleven closes.
+fn stood_eleven(past: &[Slot]) -> bool {
+    11 <= past.len() && last(past, 11).iter().all(|slot| slot.defect.stands())
 }
 
-// Whether for some m up to n the defect stood eleven closes and no close after it clears.
-fn is_out(e: &Packets, u: &Packets, kinds: &Marks, n: usize) -> bool {
-    let mut m = n;
-    while m > 0 {
-        if stood_eleven(kinds, m) {
+// Whether the last close had no defect, 9 to 11 expected packets over ten slots, and no other.
+fn clears(past: &[Slot]) -> bool {
+    let (e, u) = sums(past, 10);
+    last(past, 1).iter().all(|slot| !slot.defect.stands()) && 9 <= e && e <= 11 && u == 0
+}
+
+// Whether at some close the defect had stood eleven, and no close after it clears.
+fn is_out(past: &[Slot]) -> bool {
+    for n in (1..=past.len()).rev() {
+        if stood_eleven(&past[..n]) {
             return true;
         }
-        if clears(e, u, kinds, m) {
+        if clears(&past[..n]) {
             return false;
         }
-        m -= 1;
     }
     false
 }
 
-pub(crate) fn fill_kinds(e: &Packets, u: &Packets, kinds: &mut Marks) {
-    for n in 1..SLOTS + 1 {
-        kept::set(kinds, n, kind(e, u, n));
+// What the recount says of each close. By index, since a slot is judged by those of the run that lie before it, and written among them.
+pub(crate) fn judge(run: &mut [Slot]) {
+    for n in 0..run.len() {
+        let defect = defect(&run[..n + 1]);
+        run[n].defect = defect;
+    }
+    for n in 0..run.len() {
+        let is_out = is_out(&run[..n + 1]);
+        run[n].is_out = is_out;
     }
 }
 
-pub(crate) fn fill_outs(e: &Packets, u: &Packets, kinds: &Marks, outs: &mut Marks) {
-    for n in 1..SLOTS + 1 {
-        kept::set(outs, n, is_out(e, u, kinds, n) as u8);
-    }
-}
-
-// The first of the closes up to n that are marked without a gap.
-pub(crate) fn first(marks: &Marks, n: usize) -> usize {
-    let mut m = n;
-    while m > 1 {
-        if kept::mark(marks, m - 1) == 0 {
-            return m;
-        }
-        m -= 1;
-    }
-    m
-}
-
-// Whether none of the closes from a to b is marked.
-pub(crate) fn unmarked(marks: &Marks, a: usize, b: usize) -> bool {
-    let mut m = b;
-    while m > 0 {
-        if m < a {
-            return true;
-        }
-        if kept::mark(marks, m) != 0 {
-            return false;
-        }
-        m -= 1;
-    }
-    true
+// The number of the first of the last closes for which it holds without a gap.
+pub(crate) fn first<F: Fn(&Slot) -> bool>(past: &[Slot], is: F) -> u64
+    requires { F.IsAlwaysCallable is }
+{
+    let many = past.iter().rev().take_while(|slot| is(slot)).count();
+    (past.len().saturating_sub(many) as u64).saturating_add(1)
 }

@@ -1,92 +1,74 @@
-// What is compared of a close: the kind, unavailable since which slot, and the record; as the path answers and as the recount has it.
-use crate::kept::Marks;
-use crate::{kept, recount, same};
-use lsp::Closed;
-use window::Record;
+// What is compared of a close: the defect, the availability, and the record; as the path answers and as the recount has it.
+use crate::recount::{Slot, first};
+use lsp::{Closed, Lsp};
+use window::{Availability, Defect, Record};
 
-// Kinds by number, since 0 where available; letter b'U', b'B' or 0 with no record.
-#[derive(Clone, Copy)]
+#[derive(Clone, Copy, Debug, PartialEq, Eq)]
 pub(crate) struct Seen {
-    pub kind: u8,
-    pub since: u64,
-    pub letter: u8,
-    pub from: u64,
-    pub until: u64,
+    pub defect: Defect,
+    pub availability: Availability,
+    pub record: Option<Record>,
 }
 
-fn back(n: usize, k: usize) -> usize {
-    if n < k { 0 } else { n - k }
-}
-
-// Slot n-k.
-fn slot(n: usize, k: usize) -> u64 {
-    back(n, k) as u64
+// The record of the last close, after which the path is available. Declared at m: U from m-12 until n-9. A defect that entered at e,
+// the path available throughout: B from e-2 until n-2.
+fn ended(past: &[Slot]) -> Option<Record> {
+    let n = past.len() as u64;
+    let [before @ .., now] = past else {
+        return None;
+    };
+    let Some(latest) = before.last() else {
+        return None;
+    };
+    if latest.is_out {
+        return Some(Record::U {
+            from: first(before, |slot| slot.is_out).saturating_sub(12),
+            until: n.saturating_sub(9),
+        });
+    }
+    if now.defect.stands() || !latest.defect.stands() {
+        return None;
+    }
+    let e = first(before, |slot| slot.defect.stands());
+    if first(past, |slot| !slot.is_out) > e {
+        return None;
+    }
+    Some(Record::B {
+        from: e.saturating_sub(2),
+        until: n.saturating_sub(2),
+    })
 }
 
 impl Seen {
-    fn new(kind: u8, since: u64) -> Seen {
+    pub(crate) fn answered(c: Closed, next: Lsp) -> Seen {
         Seen {
-            kind,
-            since,
-            letter: 0,
-            from: 0,
-            until: 0,
+            defect: c.defect,
+            availability: next.state.availability,
+            record: c.handed,
         }
     }
 
-    fn with(self, letter: u8, from: u64, until: u64) -> Seen {
-        let mut s = self;
-        s.letter = letter;
-        s.from = from;
-        s.until = until;
-        s
-    }
-
-    pub(crate) fn answered(c: Closed) -> Seen {
-        let defect = c.defect;
-        let handed = c.handed;
-        let path = c.next;
-        let state = path.state;
-        let availability = state.availability;
-        let s = Seen::new(same::kind(defect), same::since(availability));
-        match handed {
-            Record::Nothing => s,
-            Record::U { from, until } => s.with(b'U', from, until),
-            Record::B { from, until } => s.with(b'B', from, until),
+    // The last close as the recount has it: where it is out, since m-12.
+    pub(crate) fn recounted(past: &[Slot]) -> Seen {
+        let Some(now) = past.last() else {
+            return Seen {
+                defect: Defect::Clear,
+                availability: Availability::Available,
+                record: None,
+            };
+        };
+        if now.is_out {
+            let since = first(past, |slot| slot.is_out).saturating_sub(12);
+            return Seen {
+                defect: now.defect,
+                availability: Availability::Unavailable { since },
+                record: None,
+            };
         }
-    }
-
-    // With the record of the close of n, after which the path is available. Declared at m: U from m-12 until n-9. A defect that
-    // entered at e, the path available throughout: B from e-2 until n-2.
-    fn ended(self, kinds: &Marks, outs: &Marks, n: usize) -> Seen {
-        let before = back(n, 1);
-        if kept::mark(outs, before) != 0 {
-            let m = recount::first(outs, before);
-            return self.with(b'U', slot(m, 12), slot(n, 9));
+        Seen {
+            defect: now.defect,
+            availability: Availability::Available,
+            record: ended(past),
         }
-        if kept::mark(kinds, n) != recount::NONE || kept::mark(kinds, before) == recount::NONE {
-            return self;
-        }
-        let e = recount::first(kinds, before);
-        if !recount::unmarked(outs, e, n) {
-            return self;
-        }
-        self.with(b'B', slot(e, 2), slot(n, 2))
-    }
-
-    // The close of n as the recount has it: where it is out, since m-12.
-    pub(crate) fn recounted(kinds: &Marks, outs: &Marks, n: usize) -> Seen {
-        let kind = kept::mark(kinds, n);
-        if kept::mark(outs, n) != 0 {
-            return Seen::new(kind, slot(recount::first(outs, n), 12));
-        }
-        Seen::new(kind, 0).ended(kinds, outs, n)
-    }
-
-    pub(crate) fn is(self, other: Seen) -> bool {
-        if self.kind != other.kind || self.since != other.since {
-            return false;
-        }
-        self.letter == other.letter && self.from == other.from && self.until == other.until
     }
 }

@@ -1,16 +1,15 @@
 // Packets of one slot after another, drawn from a seed: phases of 1 to 40 slots, each of one style.
 
-// The number drawn last, the style of the phase and how many of its slots are left, and the last slot's packets.
+// The number drawn last, the style of the phase and how many of its slots are left.
 #[derive(Drop)]
 pub(crate) struct Source {
-    pub x: u64,
-    pub style: u64,
-    pub left: u64,
-    pub e: u16,
-    pub u: u16,
+    x: u64,
+    style: u64,
+    left: u64,
 }
 
 // The next number drawn, by Lehmer's rule: from 1 to 2147483646.
+// Each program has its own: in a crate of theirs each call would need a promise and two wrong answers, and be longer for it.
 fn next(x: u64) -> u64 {
     x % 2147483647 * 48271 % 2147483647
 }
@@ -39,7 +38,7 @@ fn burst(left: u64) -> u64 {
     if left == 1 { 256 } else { 0 }
 }
 
-// Packets with the expected TTSI in a slot.
+// Packets with the expected TTSI in a slot. A style is a number, as it is drawn: an enum would add a table from numbers and say no more.
 fn expected(style: u64, x: u64, left: u64) -> u64 {
     match style {
         // Silence, and other paths' packets alone.
@@ -51,11 +50,11 @@ fn expected(style: u64, x: u64, left: u64) -> u64 {
         // Anything, with other paths' packets.
         9 => x % 3,
         // Single losses.
-        10 => (x % 8 != 0) as u64,
+        10 => u64::from(x % 8 != 0),
         // One in three slots, which is neither entry nor exit.
-        11 => (left % 3 == 0) as u64,
+        11 => u64::from(left % 3 == 0),
         // Two in three slots, or so.
-        13 => (x % 3 != 0) as u64,
+        13 => u64::from(x % 3 != 0),
         // Late ones.
         14 => late(x % 16),
         // Silence that ends with 256.
@@ -69,8 +68,8 @@ fn expected(style: u64, x: u64, left: u64) -> u64 {
 fn other(style: u64, x: u64) -> u64 {
     match style {
         8 => foreign(x),
-        9 => (x % 7 == 0) as u64,
-        12 => (x % 5 == 0) as u64,
+        9 => u64::from(x % 7 == 0),
+        12 => u64::from(x % 5 == 0),
         _ => 0,
     }
 }
@@ -85,35 +84,24 @@ impl Source {
             x: seed,
             style: 0,
             left: 0,
-            e: 0,
-            u: 0,
         }
     }
 
-    // A new phase where the last one is over.
-    fn phase(self) -> Source {
-        if 1 <= self.left {
-            return self;
-        }
-        let style = next(self.x);
-        let length = next(style);
-        let mut s = self;
-        s.x = length;
-        s.style = style % 16;
-        s.left = 1 + length % 40;
-        s
+    fn draw(&mut self) -> u64 {
+        self.x = next(self.x);
+        self.x
     }
 
-    // The next slot.
-    pub(crate) fn slot(self) -> Source {
-        let mut s = self.phase();
-        let x = next(s.x);
-        s.x = x;
-        s.e = small(expected(s.style, x, s.left));
-        s.u = small(other(s.style, x));
-        if 1 <= s.left {
-            s.left = s.left - 1;
+    // The packets of the next slot, with the expected TTSI and with others. Where the phase is over, a new one comes first.
+    pub(crate) fn slot(&mut self) -> (u16, u16) {
+        if self.left == 0 {
+            self.style = self.draw() % 16;
+            self.left = 1 + self.draw() % 40;
         }
-        s
+        let x = self.draw();
+        let e = expected(self.style, x, self.left);
+        let u = other(self.style, x);
+        self.left = self.left.saturating_sub(1);
+        (small(e), small(u))
     }
 }

@@ -1,100 +1,97 @@
 // FDI and BDI written from a path after slot 3 into so many of 50 octets of aa.
-use crate::text::add;
-use crate::{outgoing, paths, text};
+use crate::outgoing::Came;
+use crate::paths;
 use lsp::Lsp;
-use payload::Found;
+use payload::{Found, LENGTH};
+use refusal::Refusal;
+use std::{fmt, io};
 
-// By the call of each, into the first octets.
-fn write(path: Lsp, bdi: bool, buf: &mut [u8], size: usize) -> u8 {
-    if size > buf.len() {
-        return 255;
-    }
-    if bdi {
-        path.write_bdi(&mut buf[0..size])
-    } else {
-        path.write_fdi(&mut buf[0..size])
+// What a buffer holds before a call writes into it.
+const FILL: u8 = 0xAA;
+
+// What came, the server signal, and how many octets are lent.
+const CLAIMS: [(u32, u32, u32, u8, usize); 10] = [
+    (3, 0, 0, 0, 50),
+    (3, 0, 0, 0, 43),
+    (0, 0, 0, 0, 43),
+    (0, 0, 0, 0, 44),
+    (0, 0, 0, 0, 50),
+    (0, 0, 0, 1, 50),
+    (0, 0, 1, 0, 50),
+    (0, 1, 0, 0, 50),
+    (1, 1, 1, 0, 50),
+    (5, 0, 0, 0, 50),
+];
+
+#[derive(Drop)]
+struct Read(Result<Found, Refusal>);
+
+impl fmt::Display for Read {
+    fn fmt<W: fmt::Write>(&self, f: &mut fmt::Formatter<W>) -> fmt::Result {
+        match self.0 {
+            Ok(Found::Cv) => write!(f, "CV"),
+            Ok(Found::Ffd { .. }) => write!(f, "FFD"),
+            Ok(Found::Fdi { dt, dl }) => write!(f, "FDI {:04x} {dl:08x}", dt as u16),
+            Ok(Found::Bdi { dt, dl }) => write!(f, "BDI {:04x} {dl:08x}", dt as u16),
+            Err(_) => write!(f, "no payload"),
+        }
     }
 }
 
 // How many octets are x.
-fn count(b: &[u8], x: u8) -> u32 {
-    let mut n: u32 = 0;
-    let mut i = 0;
-    while i < b.len() {
-        if b[i] == x {
-            n = add(n, 1);
-        }
-        i += 1;
-    }
-    n
-}
-
-fn fields(words: &[u8], dt: u16, dl: u32) {
-    text::words(words);
-    text::hex(dt as u32, 4);
-    text::hex(dl, 8);
-}
-
-fn show(found: Found) {
-    match found {
-        Found::Cv => text::words(b" CV"),
-        Found::Ffd { rate: _ } => text::words(b" FFD"),
-        Found::Fdi { dt, dl } => fields(b" FDI", dt, dl),
-        Found::Bdi { dt, dl } => fields(b" BDI", dt, dl),
-        Found::Refused { number: _ } => text::words(b" no payload"),
-    }
+fn count(octets: &[u8], x: u8) -> usize {
+    octets.iter().filter(|octet| **octet == x).count()
 }
 
 // The payload, how many octets of its TTSI are zero, and how many after it are aa.
-fn read_back(b: &[u8]) {
-    if b.len() != 50 {
-        return;
-    }
-    text::words(b", read back, zeros of its TTSI, octets of aa after it:");
-    show(payload::read(&b[0..44]));
-    text::number(count(payload::ttsi(&b[0..44]), 0) as u64);
-    text::number(count(&b[44..50], 0xAA) as u64);
+fn read_back(rt: &impl Print, b: &[u8; 50]) -> io::Result<()> {
+    let (p, after) = b.split_at(LENGTH);
+    let read = Read(payload::read(p));
+    let zeros = count(payload::ttsi(p), 0);
+    let left = count(after, FILL);
+    print!(rt; ", read back, zeros of its TTSI, octets of aa after it: {read} {zeros} {left}")
 }
 
-fn written(path: Lsp, bdi: bool, size: usize) {
-    let mut b = [0xAAu8; 50];
-    let number = write(path, bdi, &mut b, size);
-    text::number(number as u64);
-    text::words(b", octets of aa left:");
-    text::number(count(&b, 0xAA) as u64);
+fn written<F: Fn(Lsp, &mut [u8]) -> Result<(), Refusal>>(
+    rt: &impl Print,
+    path: Lsp,
+    size: usize,
+    write: F,
+) -> io::Result<()>
+    requires { F.IsAlwaysCallable write }
+{
+    let mut b = [FILL; 50];
+    let number = refusal::number(write(path, &mut b[..size.min(50)]));
+    let left = count(&b, FILL);
+    print!(rt; " {number}, octets of aa left: {left}")?;
     if number == 0 {
-        read_back(&b);
+        read_back(rt, &b)?;
     }
-    text::words(b"\n");
+    println!(rt; "")
 }
 
-fn claim(own: u32, other: u32, fdis: u32, server: u8, bdi: bool, size: usize) {
-    let path = paths::server(paths::early(own, other, fdis), server);
-    outgoing::came(own, other, fdis, server);
-    if bdi {
-        text::words(b", BDI into");
-    } else {
-        text::words(b", FDI into");
+// By the call of each name.
+fn claims_of<F: Fn(Lsp, &mut [u8]) -> Result<(), Refusal>>(
+    rt: &impl Print,
+    name: &str,
+    write: F,
+) -> io::Result<()>
+    requires { F.IsAlwaysCallable write }
+{
+    for (own, other, fdis, server, size) in CLAIMS {
+        let came = Came {
+            own,
+            other,
+            fdis,
+            server,
+        };
+        print!(rt; "{came}, {name} into {size} octets, answer:")?;
+        written(rt, paths::closed(came.path()), size, &write)?;
     }
-    text::number(size as u64);
-    text::words(b" octets, answer:");
-    written(paths::closed(path), bdi, size);
+    Ok(())
 }
 
-fn claims_of(bdi: bool) {
-    claim(3, 0, 0, 0, bdi, 50);
-    claim(3, 0, 0, 0, bdi, 43);
-    claim(0, 0, 0, 0, bdi, 43);
-    claim(0, 0, 0, 0, bdi, 44);
-    claim(0, 0, 0, 0, bdi, 50);
-    claim(0, 0, 0, 1, bdi, 50);
-    claim(0, 0, 1, 0, bdi, 50);
-    claim(0, 1, 0, 0, bdi, 50);
-    claim(1, 1, 1, 0, bdi, 50);
-    claim(5, 0, 0, 0, bdi, 50);
-}
-
-pub(crate) fn claims() {
-    claims_of(false);
-    claims_of(true);
+pub(crate) fn claims(rt: &impl Print) -> io::Result<()> {
+    claims_of(rt, "FDI", |path, buf| path.write_fdi(buf))?;
+    claims_of(rt, "BDI", |path, buf| path.write_bdi(buf))
 }

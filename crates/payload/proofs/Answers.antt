@@ -1,66 +1,47 @@
 -- What the reader's tests say of `read_of`, over plain values. Assumes nothing.
-use mathlib.Core.Path.{◌≡◌, refl, ap, sym, subst, ◌∙◌}
+use mathlib.Core.Path.{◌≡◌, refl, ap, ap₂, sym, ◌∙◌}
 use mathlib.Core.Bool.{Bool, true, false}
-use mathlib.Core.List.{List, []}
-use Prim.Native.Nat.{ℕ, ◌+◌}
+use mathlib.Core.List.{List, [], ◌∷◌}
+use Prim.Native.Nat.{ℕ, ◌+◌, ◌*◌}
+use native.Mathlib.Omega.{arith}
 use lib.Dec.{eqb}
 use lib.ListN.{length, get_or, take, drop}
 use borrow.Author.Tests.{eq-eqb, ne_eqb, eqb-true}
+use Rattle.std.specs.Prelude.{Option, Some, None, Result, Ok, Err}
+use Rattle.std.specs.Int.{w16, w32, from_be_bytes}
+use Rattle.std.specs.Option.{ok_or}
+use Rattle.std.specs.Result.{is_ok}
+use Rattle.refusal.specs.declared.Refusal.{Refusal}
+use Rattle.refusal.specs.declared.Refusal.TheVariants.{Row}
+use Rattle.refusal.proofs.Numbers.{refuses}
 use Rattle.payload.specs.Test.{pick, both}
-use Rattle.payload.specs.Layout.{run, is_type, valid}
-use Rattle.payload.specs.Writing.{fields_of, may_write}
-use Rattle.payload.specs.Reading.{Answer, refusal, shown, word_at, long_at, fields_at, clear, bip_right, row_of, read_of, accepts, ttsi_part, ttsi_at, place_at, ttsi_place}
-use Rattle.payload.proofs.Tests.{never, both_false, both_no, both_yes}
+use Rattle.payload.specs.Layout.{is_type, valid}
+use Rattle.payload.specs.Numbers.{type_of, type_in, row_in}
+use Rattle.payload.specs.Writing.{fields_of}
+use Rattle.payload.specs.Reading.{Answer, refusal, answer_of, shown, word_at, long_at, fields_at, clear, clear_in, bip_right, row_of, read_of, accepts, ttsi_part, ttsi_at, place_at, ttsi_place}
+use Rattle.payload.specs.declared.layout.Unknown.{Unknown}
+use Rattle.payload.specs.declared.layout.FunctionType.{FunctionType}
+use Rattle.payload.specs.declared.found.Found.{Found}
+use Rattle.payload.specs.declared.found.Found.TheVariants as found
+use Rattle.payload.proofs.Tests.{never}
+use Rattle.payload.proofs.Rows.{type_is, no_type, type_holds, Ruled, none, some, ruled, clear_is, shown_is}
 
-module _ (p : List ℕ) (x y : ℕ) (e : x ≡ run 0 (take 42 p)) (o : y ≡ run 0 (drop 1 (take 42 p))) where
-  pub bip_no : (get_or p 42 0 ≡ x → ⊥) → false ≡ bip_right p
-  bip_no n = both_no _ _ (ne_eqb _ _ (λ h. n (h ∙ sym e)))
+-- ---- big-endian numbers
 
-  pub bip_yes : get_or p 42 0 ≡ x → eqb (get_or p 43 0) y ≡ bip_right p
-  bip_yes h = both_yes _ _ _ (eq-eqb _ _ (h ∙ e)) (ap (eqb (get_or p 43 0)) o)
+pub word_is : (a b : ℕ) → from_be_bytes w16 (a ∷ b ∷ []) ≡ a * 256 + b
+word_is a b = omega arith
+
+pub long_is : (a b c d : ℕ) → from_be_bytes w32 (a ∷ b ∷ c ∷ d ∷ []) ≡ a * 16777216 + b * 65536 + c * 256 + d
+long_is a b c d = omega arith
 
 -- ---- the row: i says that the type is one, k that what is reserved is clear, v that the fields are valid
 
 abbrev row_by : Bool → Bool → Bool → Answer → Answer
 row_by i k v s = pick i (pick (both k v) s (refusal 5)) (refusal 4)
 
-row_4 : (i k v : Bool) (s : Answer) → i ≡ false → refusal 4 ≡ row_by i k v s
-row_4 i k v s h = rw h
-
-row_5 : (i k v : Bool) (s : Answer) → i ≡ true → both k v ≡ false → refusal 5 ≡ row_by i k v s
-row_5 i k v s h n = rw (h, n)
-
-row_0 : (i k v : Bool) (s : Answer) → i ≡ true → k ≡ true → v ≡ true → s ≡ row_by i k v s
-row_0 i k v s h m n = rw (h, m, n)
-
--- what `may_write` says of the octets where they stand
-abbrev pub Ruled : List ℕ → ℕ → Bool → Type 0
-Ruled p dt b = (dl : ℕ) → b ≡ may_write (get_or p 0 0) (fields_of (get_or p 0 0) (take 20 (drop 4 p)) (get_or p 24 0) dt dl)
-
 module _ (p : List ℕ) where
-  pub row_type : is_type (get_or p 0 0) ≡ false → refusal 4 ≡ row_of p
-  row_type h = row_4 (is_type (get_or p 0 0)) (clear (fields_at p) p) (valid (fields_at p)) (shown (fields_at p)) h
-
-  pub row_clear : is_type (get_or p 0 0) ≡ true → clear (fields_at p) p ≡ false → refusal 5 ≡ row_of p
-  row_clear h n =
-      row_5 (is_type (get_or p 0 0)) (clear (fields_at p) p) (valid (fields_at p)) (shown (fields_at p)) h (ap (λ (b : Bool). both b (valid (fields_at p))) n)
-
-  -- past the test of the type, `may_write` says whether the fields are valid
-  ruled : (dt : ℕ) (b : Bool) → is_type (get_or p 0 0) ≡ true → dt ≡ word_at p → Ruled p dt b → valid (fields_at p) ≡ b
-  ruled dt b h e r =
-      sym (subst (λ (w : ℕ). Ruled p w b) e r (long_at p) ∙ ap (λ (i : Bool). both i (valid (fields_at p))) h)
-
-  pub row_rule : (dt : ℕ) (b : Bool) → is_type (get_or p 0 0) ≡ true → dt ≡ word_at p → Ruled p dt b → b ≡ false → refusal 5 ≡ row_of p
-  row_rule dt b h e r n =
-      row_5 (is_type (get_or p 0 0)) (clear (fields_at p) p) (valid (fields_at p)) (shown (fields_at p)) h
-      (ap (both (clear (fields_at p) p)) (ruled dt b h e r ∙ n) ∙ both_false (clear (fields_at p) p))
-
-  pub row_shown : (dt dl : ℕ) (b : Bool) (s : Answer) → is_type (get_or p 0 0) ≡ true → clear (fields_at p) p ≡ true → dt ≡ word_at p → dl ≡ long_at p
-      → Ruled p dt b → b ≡ true → s ≡ shown (fields_of (get_or p 0 0) (take 20 (drop 4 p)) (get_or p 24 0) dt dl) → s ≡ row_of p
-  row_shown dt dl b s h k e l r n q =
-      q ∙ ap (λ (w : ℕ). shown (fields_of (get_or p 0 0) (take 20 (drop 4 p)) (get_or p 24 0) w dl)) e
-      ∙ ap (λ (w : ℕ). shown (fields_of (get_or p 0 0) (take 20 (drop 4 p)) (get_or p 24 0) (word_at p) w)) l
-      ∙ row_0 (is_type (get_or p 0 0)) (clear (fields_at p) p) (valid (fields_at p)) (shown (fields_at p)) h k (ruled dt b h e r ∙ n)
+  row_says : (i k v : Bool) → is_type (get_or p 0 0) ≡ i → clear (fields_at p) p ≡ k → valid (fields_at p) ≡ v → row_by i k v (shown (fields_at p)) ≡ row_of p
+  row_says i k v e f g = rw (e, f, g) refl
 
 -- ---- the whole: l says that there are 44 octets, b that BIP16 is right
 
@@ -81,6 +62,40 @@ module _ (p : List ℕ) where
   pub read_row : length p ≡ 44 → bip_right p ≡ true → row_of p ≡ read_of p
   read_row h n = read_by_lem true true (eq-eqb _ _ h) n
 
+  module _ (h : length p ≡ 44) (b : bip_right p ≡ true) where
+    pub read_type : (e : Unknown ℕ) → type_in (get_or p 0 0) ≡ Err e → refusal 4 ≡ read_of p
+    read_type e t = row_says p false _ _ (no_type (get_or p 0 0) e t) refl refl ∙ read_row h b
+
+    module _ (ty : FunctionType) (t : type_in (get_or p 0 0) ≡ Ok ty) where
+      is : get_or p 0 0 ≡ type_of ty
+      is = type_is (get_or p 0 0) ty t
+
+      typed : is_type (get_or p 0 0) ≡ true
+      typed = ap is_type is ∙ type_holds ty
+
+      cleared : clear (fields_at p) p ≡ clear_in ty p
+      cleared = ap (λ (n : ℕ). clear (fields_of n (take 20 (drop 4 p)) (get_or p 24 0) (word_at p) (long_at p)) p) is ∙ clear_is ty p _ _ _ _
+
+      pub read_clear : clear_in ty p ≡ false → refusal 5 ≡ read_of p
+      read_clear n = row_says p true false _ typed (cleared ∙ n) refl ∙ read_row h b
+
+      pub read_done : clear_in ty p ≡ true → (dt dl : ℕ) → dt ≡ word_at p → dl ≡ long_at p
+          → answer_of (ok_or (row_in ty (take 20 (drop 4 p)) (get_or p 24 0) dt dl) Row) ≡ read_of p
+      read_done k dt dl w l =
+          ap₂ (λ (x y : ℕ). answer_of (ok_or (row_in ty (take 20 (drop 4 p)) (get_or p 24 0) x y) Row)) w l
+          ∙ go (row_in ty (take 20 (drop 4 p)) (get_or p 24 0) (word_at p) (long_at p)) (ruled _ _ _ _ ty)
+        where
+          same : fields_of (type_of ty) (take 20 (drop 4 p)) (get_or p 24 0) (word_at p) (long_at p) ≡ fields_at p
+          same = ap (λ (n : ℕ). fields_of n (take 20 (drop 4 p)) (get_or p 24 0) (word_at p) (long_at p)) (sym is)
+
+          go : (o : Option Found)
+              → Ruled (take 20 (drop 4 p)) (fields_of (type_of ty) (take 20 (drop 4 p)) (get_or p 24 0) (word_at p) (long_at p)) o
+              → answer_of (ok_or o Row) ≡ read_of p
+          go None (none v) = row_says p true true false typed (cleared ∙ k) (ap valid (sym same) ∙ v) ∙ read_row h b
+          go (Some f) (some g v i e) =
+              shown_is f (take 20 (drop 4 p)) ∙ ap shown (e ∙ same)
+              ∙ row_says p true true true typed (cleared ∙ k) (ap valid (sym same) ∙ v) ∙ read_row h b
+
   pub accepted_long : accepts p ≡ true → length p ≡ 44
   unfolding read_of
   accepted_long h = go (eqb (length p) 44) refl h
@@ -89,24 +104,23 @@ module _ (p : List ℕ) where
       go true e k = eqb-true (length p) 44 e
       go false e k = absurd (never k)
 
-  -- n is the number of the reader's answer a
-  pub accepted_by : (a : Answer) (n : ℕ) → a ≡ read_of p → n ≡ a.number → n ≡ 0 → accepts p ≡ true
-  accepted_by a n r e z = eq-eqb _ _ (ap (λ (x : Answer). x.number) (sym r) ∙ sym e ∙ z)
+  -- a is the reader's answer
+  pub accepted_by : (r : Result Found Refusal) → answer_of r ≡ read_of p → is_ok r ≡ true → accepts p ≡ true
+  accepted_by (Ok found.Cv) e o = eq-eqb _ _ (ap (λ (x : Answer). x.number) (sym e))
+  accepted_by (Ok (found.Ffd r)) e o = eq-eqb _ _ (ap (λ (x : Answer). x.number) (sym e))
+  accepted_by (Ok (found.Fdi d l)) e o = eq-eqb _ _ (ap (λ (x : Answer). x.number) (sym e))
+  accepted_by (Ok (found.Bdi d l)) e o = eq-eqb _ _ (ap (λ (x : Answer). x.number) (sym e))
+  accepted_by (Err r) e o = absurd (never o)
 
-  pub refused_by : (a : Answer) (n : ℕ) → a ≡ read_of p → n ≡ a.number → (n ≡ 0 → ⊥) → accepts p ≡ false
-  refused_by a n r e z = ne_eqb _ _ (λ h. z (e ∙ ap (λ (x : Answer). x.number) r ∙ h))
+  pub refused_by : (r : Result Found Refusal) → answer_of r ≡ read_of p → is_ok r ≡ false → accepts p ≡ false
+  refused_by (Ok f) e o = absurd (never (sym o))
+  refused_by (Err r) e o = ne_eqb _ _ (λ h. refuses r (ap (λ (x : Answer). x.number) e ∙ h))
 
   -- of a payload that was read, the TTSI's place holds its TTSI
   pub place_holds : (a : Answer) → a ≡ read_of p → a.number ≡ 0 → place_at p ≡ ttsi_at p
   place_holds a r z =
-      let y : accepts p ≡ true = accepted_by a a.number r refl z in
+      let y : accepts p ≡ true = eq-eqb _ _ (ap (λ (x : Answer). x.number) (sym r) ∙ z) in
       rw (eq-eqb (length p) 44 (accepted_long y), y)
-
-  pub place_is : (a o : ℕ) → length p ≡ 44 → ((a, 4 + o), take 20 (drop 4 p)) ≡ ttsi_place (a, o) p
-  place_is a o h = rw (eq-eqb (length p) 44 h)
-
-  pub no_place : (a o : ℕ) → (length p ≡ 44 → ⊥) → ((a, o), []) ≡ ttsi_place (a, o) p
-  no_place a o h = rw (ne_eqb (length p) 44 h)
 
   -- the part that the TTSI call answers; a and o are the block and the offset of the payload
   pub part_is : (a o : ℕ) → accepts p ≡ true → ((a, 4 + o), take 20 (drop 4 p)) ≡ ttsi_part (a, o) p

@@ -40,21 +40,3 @@ both_left false b h = h
 pub both_right : (a b : Bool) → both a b ≡ true → b ≡ true
 both_right true b h = h
 both_right false b h = cc
-
--- ---- membership
-
--- x is none of the list
-abbrev pub Misses : ℕ → List ℕ → Type 0
-Misses x [] = Unit {0}
-Misses x (y ∷ l) = (x ≡ y → ⊥) × Misses x l
-
--- a chain of tests that missed all members but the last asks about that one
-pub last_of : (x n : ℕ) (l : List ℕ) → length l ≡ suc n → Misses x (take n l) → eqb x (get_or l n 0) ≡ member x l
-last_of x n [] h m = absurd (omega arith)
-last_of x zero (y ∷ []) h m = go (eqb x y)
-  where
-    go : (b : Bool) → b ≡ either b false
-    go true = refl
-    go false = refl
-last_of x zero (y ∷ z ∷ l) h m = absurd (omega arith)
-last_of x (suc n) (y ∷ l) h m = last_of x n l (omega arith) m.1 ∙ ap (λ (b : Bool). either b (member x l)) (sym (ne_eqb x y m.0))

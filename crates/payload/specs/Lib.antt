@@ -1,6 +1,7 @@
 pub mod Test
 pub mod Layout
 pub mod Words
+pub mod Numbers
 pub mod Rates
 pub mod Writing
 pub mod Reading

@@ -1,12 +1,14 @@
 -- What the calls' promises leave open: nothing. Two outcomes that meet a call's promise are equal; a writer's answer hangs on no field
 -- that its row doesn't name. `proofs/Promises.antt` proves both.
 -- Assumes nothing.
-use Rattle.std.specs.Prelude.{◌≡◌, Bool, List, ℕ}
+use Rattle.std.specs.Prelude.{◌≡◌, Bool, List, ℕ, Result}
+use Rattle.refusal.specs.Numbers.{number_in}
+use Rattle.refusal.specs.declared.Refusal.{Refusal}
 use Rattle.payload.specs.Rates.{is_rate, interval_of, rate_life_of, is_kind, slot_of, life_of}
 use Rattle.payload.specs.Layout.{is_defect, is_ttsi}
 use Rattle.payload.specs.Writing.{write_of}
 use Rattle.payload.specs.Reading.{answer_of, read_of, ttsi_part, ttsi_place}
-use Rattle.payload.specs.declared.reading.Found.{Found}
+use Rattle.payload.specs.declared.found.Found.{Found}
 
 -- a promise over outcomes X has room for one at most
 abbrev pub One : (X : Type 0) → (X → Type 0) → Type 0
@@ -14,13 +16,13 @@ One X P = (x y : X) → P x → P y → x ≡ y
 
 -- where a call is an equation `outcome ≡ definition`, its outcome is all that it answers and leaves
 pub record OneOutcome : Type 0 where
-  pub read : (p : List ℕ) → One Found (λ r. answer_of r ≡ read_of p)
-  pub number : (f : Found) → One ℕ (λ r. r ≡ (answer_of f).number)
+  pub read : (p : List ℕ) → One (Result Found Refusal) (λ r. answer_of r ≡ read_of p)
   -- of a slice, where it begins and its octets; its ghost name is no outcome
   pub ttsi : (at : ℕ × ℕ) (p : List ℕ) → One ((ℕ × ℕ) × List ℕ) (λ r. r ≡ ttsi_part at p)
   pub ttsi_place : (at : ℕ × ℕ) (p : List ℕ) → One ((ℕ × ℕ) × List ℕ) (λ r. r ≡ ttsi_place at p)
-  -- the number and the lent octets afterwards
-  pub write : (ty : ℕ) (t : List ℕ) (r dt dl : ℕ) (b : List ℕ) → One (ℕ × List ℕ) (λ x. x ≡ write_of ty t r dt dl b)
+  -- the answer, by its number, and the lent octets afterwards
+  pub write : (ty : ℕ) (t : List ℕ) (r dt dl : ℕ) (b : List ℕ)
+      → One (Result (Unit {0}) Refusal × List ℕ) (λ x. (number_in x.0, x.1) ≡ write_of ty t r dt dl b)
   pub is_ttsi : (t : List ℕ) → One Bool (λ r. r ≡ is_ttsi t)
   pub is_defect : (dt : ℕ) → One Bool (λ r. r ≡ is_defect dt)
   pub is_rate : (code : ℕ) → One Bool (λ r. r ≡ is_rate code)

@@ -1,11 +1,16 @@
 -- Reading: the answer in the paper's numbers, and the part of the lent octets that is the TTSI.
 -- Assumes nothing.
-use Rattle.std.specs.Prelude.{ℕ, ◌+◌, ◌*◌, ◌-◌, Bool, List, [], eqb, length, get_or, take, drop}
+use Rattle.std.specs.Prelude.{ℕ, ◌+◌, ◌*◌, ◌-◌, Bool, List, [], Result, Ok, Err, eqb, length, get_or, take, drop}
+use Rattle.refusal.specs.Numbers.{number_of}
+use Rattle.refusal.specs.declared.Refusal.{Refusal}
 use Rattle.payload.specs.Test.{pick, both, all_zero}
 use Rattle.payload.specs.Layout.{Fields, cv, ffd, fdi, bdi, run, is_type, valid}
 use Rattle.payload.specs.Writing.{fields_of}
-use Rattle.payload.specs.declared.reading.Found.{Found}
-use Rattle.payload.specs.declared.reading.Found.TheVariants.{Cv, Ffd, Fdi, Bdi, Refused}
+use Rattle.payload.specs.Numbers.{dt_of}
+use Rattle.payload.specs.declared.layout.FunctionType.{FunctionType}
+use Rattle.payload.specs.declared.layout.FunctionType.TheVariants as type
+use Rattle.payload.specs.declared.found.Found.{Found}
+use Rattle.payload.specs.declared.found.Found.TheVariants.{Cv, Ffd, Fdi, Bdi}
 
 -- what the reader answers: its number and, on 0, the fields but the TTSI; those that there are not are zero
 pub record Answer : Type 0 where
@@ -19,12 +24,12 @@ abbrev pub refusal : ℕ → Answer
 refusal n = record { number = n; type = 0; rate = 0; dt = 0; dl = 0 }
 
 -- of each case of the code's answer
-abbrev pub answer_of : Found → Answer
-answer_of Cv = record { number = 0; type = 1; rate = 0; dt = 0; dl = 0 }
-answer_of (Ffd r) = record { number = 0; type = 7; rate = r; dt = 0; dl = 0 }
-answer_of (Fdi dt dl) = record { number = 0; type = 2; rate = 0; dt = dt; dl = dl }
-answer_of (Bdi dt dl) = record { number = 0; type = 3; rate = 0; dt = dt; dl = dl }
-answer_of (Refused n) = refusal n
+abbrev pub answer_of : Result Found Refusal → Answer
+answer_of (Ok Cv) = record { number = 0; type = 1; rate = 0; dt = 0; dl = 0 }
+answer_of (Ok (Ffd r)) = record { number = 0; type = 7; rate = r; dt = 0; dl = 0 }
+answer_of (Ok (Fdi dt dl)) = record { number = 0; type = 2; rate = 0; dt = dt_of dt; dl = dl }
+answer_of (Ok (Bdi dt dl)) = record { number = 0; type = 3; rate = 0; dt = dt_of dt; dl = dl }
+answer_of (Err r) = refusal (number_of r)
 
 -- of fields
 abbrev pub shown : Fields → Answer
@@ -63,6 +68,13 @@ clear (cv t) p = blank_from p 24
 clear (ffd t r) p = blank_from p 25
 clear (fdi t dt dl) p = clear_from p 28
 clear (bdi t dt dl) p = clear_from p 28
+
+-- by the type
+abbrev pub clear_in : FunctionType → List ℕ → Bool
+clear_in type.Cv p = blank_from p 24
+clear_in type.Ffd p = blank_from p 25
+clear_in type.Fdi p = clear_from p 28
+clear_in type.Bdi p = clear_from p 28
 
 -- ---- the answers
 

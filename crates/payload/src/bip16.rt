@@ -1,16 +1,17 @@
 // BIP16, summed from the octets where they lie: its first octet is the exclusive-or at the even offsets, its second that at the odd ones.
-ghost use Rattle.std.specs.Prelude.{◌≡◌, drop};
-ghost use Rattle.payload.specs.Layout.{run};
+ghost use Rattle.std.specs.Prelude.{◌≡◌, ◌%◌, length};
+ghost use Rattle.payload.specs.Layout.{bip};
 
-// The exclusive-or of every second octet, from the offset given.
-pub(crate) fn every_second(s: &[u8], from: usize) -> u8
-    ensures { result ≡ run 0 (drop from s.now) }
+pub(crate) fn bip16(s: &[u8]) -> [u8; 2]
+    requires { length s.now % 2 ≡ 0 }
+    ensures { result ≡ bip s.now }
 {
-    let mut x: u8 = 0;
-    let mut i = from;
-    while i < s.len() {
-        x = x ^ s[i];
-        i += 2;
+    let (words, _) = s.as_chunks::<2>();
+    let mut even = 0;
+    let mut odd = 0;
+    for word in words {
+        even ^= word[0];
+        odd ^= word[1];
     }
-    x
+    [even, odd]
 }

@@ -1,9 +1,7 @@
 // Where the fields stand, the numbers that they may be, and the rules of each.
-ghost use Rattle.std.specs.Prelude.{◌≡◌, ℕ};
-ghost use Rattle.payload.specs.Layout.{is_type, is_defect, is_ttsi};
-ghost use Rattle.payload.specs.Writing.{fields_of, may_write};
-
-use crate::rates::Rate;
+ghost use Rattle.std.specs.Prelude.{◌≡◌};
+ghost use Rattle.payload.specs.Layout.{is_defect, is_ttsi};
+ghost use Rattle.payload.specs.Numbers.{type_in, defect_in};
 
 pub const LENGTH: usize = 44;
 
@@ -14,75 +12,70 @@ pub(crate) const OWN: usize = 24;
 
 pub(crate) const BIP: usize = 42;
 
-#[derive(Clone, Copy)]
-pub struct FunctionType;
+// A number that names nothing.
+#[derive(Clone, Copy, Debug, PartialEq, Eq)]
+pub struct Unknown<N>(pub N);
 
-impl FunctionType {
-    pub const CV: u8 = 0x01;
+#[derive(Clone, Copy, Debug, PartialEq, Eq)]
+pub enum FunctionType {
+    Cv = 0x01,
+    Fdi = 0x02,
+    Bdi = 0x03,
+    Ffd = 0x07,
+}
 
-    pub const FDI: u8 = 0x02;
+impl TryFrom<u8> for FunctionType {
+    type Error = Unknown<u8>;
 
-    pub const BDI: u8 = 0x03;
+    ghost try_from_gives = { λ ty r. r ≡ type_in ty };
 
-    pub const FFD: u8 = 0x07;
-
-    pub(crate) fn is_type(ty: u8) -> bool
-        ensures { result ≡ is_type ty }
-    {
-        if ty == FunctionType::CV {
-            return true;
+    fn try_from(ty: u8) -> Result<Self, Unknown<u8>> {
+        match ty {
+            0x01 => Ok(FunctionType::Cv),
+            0x02 => Ok(FunctionType::Fdi),
+            0x03 => Ok(FunctionType::Bdi),
+            0x07 => Ok(FunctionType::Ffd),
+            _ => Err(Unknown(ty)),
         }
-        if ty == FunctionType::FDI {
-            return true;
-        }
-        if ty == FunctionType::BDI {
-            return true;
-        }
-        ty == FunctionType::FFD
     }
 }
 
-#[derive(Clone, Copy)]
-pub struct DefectType;
+#[derive(Clone, Copy, Debug, PartialEq, Eq)]
+pub enum DefectType {
+    Server = 0x0101,
+    PeerMe = 0x0102,
+    Locv = 0x0201,
+    Mismatch = 0x0202,
+    Mismerge = 0x0203,
+    Excess = 0x0204,
+    Unknown = 0x02FF,
+}
+
+impl TryFrom<u16> for DefectType {
+    type Error = Unknown<u16>;
+
+    ghost try_from_gives = { λ dt r. r ≡ defect_in dt };
+
+    fn try_from(dt: u16) -> Result<Self, Unknown<u16>> {
+        match dt {
+            0x0101 => Ok(DefectType::Server),
+            0x0102 => Ok(DefectType::PeerMe),
+            0x0201 => Ok(DefectType::Locv),
+            0x0202 => Ok(DefectType::Mismatch),
+            0x0203 => Ok(DefectType::Mismerge),
+            0x0204 => Ok(DefectType::Excess),
+            0x02FF => Ok(DefectType::Unknown),
+            _ => Err(Unknown(dt)),
+        }
+    }
+}
 
 impl DefectType {
-    pub const SERVER: u16 = 0x0101;
-
-    pub const PEER_ME: u16 = 0x0102;
-
-    pub const LOCV: u16 = 0x0201;
-
-    pub const MISMATCH: u16 = 0x0202;
-
-    pub const MISMERGE: u16 = 0x0203;
-
-    pub const EXCESS: u16 = 0x0204;
-
-    pub const UNKNOWN: u16 = 0x02FF;
-
     // Whether the number is one of the seven.
     pub fn is_defect(dt: u16) -> bool
         ensures { result ≡ is_defect dt }
     {
-        if dt == DefectType::SERVER {
-            return true;
-        }
-        if dt == DefectType::PEER_ME {
-            return true;
-        }
-        if dt == DefectType::LOCV {
-            return true;
-        }
-        if dt == DefectType::MISMATCH {
-            return true;
-        }
-        if dt == DefectType::MISMERGE {
-            return true;
-        }
-        if dt == DefectType::EXCESS {
-            return true;
-        }
-        dt == DefectType::UNKNOWN
+        DefectType::try_from(dt).is_ok()
     }
 }
 
@@ -90,28 +83,5 @@ impl DefectType {
 pub fn is_ttsi(t: &[u8]) -> bool
     ensures { result ≡ is_ttsi t.now }
 {
-    if t.len() != 20 {
-        return false;
-    }
-    if t[16] != 0 {
-        return false;
-    }
-    t[17] == 0
-}
-
-// Whether the type is one and the fields that its row names obey their rules. The defect location has none.
-pub(crate) fn may_write(ty: u8, t: &[u8], rate: u8, dt: u16) -> bool
-    ensures { (dl : ℕ) → result ≡ may_write ty (fields_of ty t.now rate dt dl) }
-{
-    if !FunctionType::is_type(ty) {
-        return false;
-    }
-    if !is_ttsi(t) {
-        return false;
-    }
-    match ty {
-        FunctionType::CV => true,
-        FunctionType::FFD => Rate::is_rate(rate),
-        _ => DefectType::is_defect(dt),
-    }
+    t.len() == 20 && t[16] == 0 && t[17] == 0
 }

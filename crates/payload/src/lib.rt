@@ -6,12 +6,14 @@
 #![tactic(auto)]
 
 mod bip16;
+pub mod found;
 pub mod layout;
 pub mod rates;
 pub mod reading;
 pub mod writing;
 
-pub use layout::{DefectType, FunctionType, LENGTH, is_ttsi};
+pub use found::Found;
+pub use layout::{DefectType, FunctionType, LENGTH, Unknown, is_ttsi};
 pub use rates::{Kind, Rate};
-pub use reading::{Found, read, ttsi, ttsi_place};
+pub use reading::{read, ttsi, ttsi_place};
 pub use writing::write;

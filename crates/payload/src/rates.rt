@@ -2,7 +2,10 @@
 ghost use Rattle.std.specs.Prelude.{◌≡◌};
 ghost use Rattle.payload.specs.Rates.{is_rate, interval_of, rate_life_of, is_kind, slot_of, life_of};
 
-#[derive(Clone, Copy)]
+//
+// A rate and a kind are numbers, not enums: `interval_of`, `rate_life_of`, `slot_of` and `life_of` answer any number, and a path holds any.
+// Interval and life are two tables with a constant of its own for each entry, as the paper has them; one function over both would say less.
+#[derive(Clone, Copy, Debug, PartialEq, Eq)]
 pub struct Rate;
 
 impl Rate {
@@ -34,10 +37,7 @@ impl Rate {
     pub fn is_rate(code: u8) -> bool
         ensures { result ≡ is_rate code }
     {
-        if code < 1 {
-            return false;
-        }
-        code <= 6
+        1 <= code && code <= 6
     }
 
     // The time from one FFD packet to the next; 0 where the code is no rate.
@@ -72,7 +72,7 @@ impl Rate {
 }
 
 // A path's kind: 0 for CV, else its rate code.
-#[derive(Clone, Copy)]
+#[derive(Clone, Copy, Debug, PartialEq, Eq)]
 pub struct Kind;
 
 impl Kind {

@@ -1,72 +1,42 @@
 // From fields to the 44 octets of their row.
-ghost use Rattle.std.specs.Prelude.{◌≡◌, List, [], ◌∷◌, ◌++◌, ℕ, ◌/◌, ◌%◌, length, take, replicate};
-ghost use Rattle.payload.specs.Layout.{bip, tail_of};
-ghost use Rattle.payload.specs.Writing.{fields_of, word_of, write_of};
+ghost use Rattle.std.specs.Prelude.{◌≡◌, ◌++◌, length, take};
+ghost use Rattle.refusal.specs.Numbers.{number_in};
+ghost use Rattle.payload.specs.Layout.{bip};
+ghost use Rattle.payload.specs.Numbers.{head_in, tail_in};
+ghost use Rattle.payload.specs.Writing.{write_of};
 
-use crate::bip16::every_second;
-use crate::layout::{BIP, FunctionType, LENGTH, OWN, TTSI, may_write};
+use crate::bip16::bip16;
+use crate::found::{Found, row};
+use crate::layout::{BIP, FunctionType, LENGTH, OWN, TTSI};
+use refusal::Refusal;
 
-fn fill(s: &mut [u8])
-    ensures { s.new ≡ replicate (length s.old) 0 }
+// Offsets 0 to 3: the type, and the defect type where the row has one.
+fn head(found: Found) -> [u8; TTSI]
+    ensures { result ≡ head_in found }
 {
-    let mut i = 0;
-    while i < s.len() {
-        s[i] = 0;
-        i += 1;
-    }
+    let (ty, dt) = match found {
+        Found::Cv => (FunctionType::Cv, 0),
+        Found::Ffd { rate: _ } => (FunctionType::Ffd, 0),
+        Found::Fdi { dt, dl: _ } => (FunctionType::Fdi, dt as u16),
+        Found::Bdi { dt, dl: _ } => (FunctionType::Bdi, dt as u16),
+    };
+    let [high, low] = dt.to_be_bytes();
+    [ty as u8, 0, high, low]
 }
 
-fn copy(to: &mut [u8], from: &[u8])
-    requires { length to.old ≡ length from.now }
-    ensures { to.new ≡ from.now }
+// Offsets 24 to 41: the rate or the defect location, and zeros.
+fn tail(found: Found) -> [u8; BIP - OWN]
+    ensures { result ≡ tail_in found }
 {
-    let mut i = 0;
-    while i < from.len() {
-        to[i] = from[i];
-        i += 1;
+    let mut tail = [0; BIP - OWN];
+    match found {
+        Found::Cv => {}
+        Found::Ffd { rate } => tail[0] = rate,
+        Found::Fdi { dt: _, dl } | Found::Bdi { dt: _, dl } => tail[..4].copy_from_slice(
+            &dl.to_be_bytes(),
+        ),
     }
-}
-
-// What stands at offsets 2 and 3: the defect type, or zero where the row has none.
-fn word_of(ty: u8, dt: u16) -> u16
-    ensures { result ≡ word_of ty dt }
-{
-    match ty {
-        FunctionType::CV => 0,
-        FunctionType::FFD => 0,
-        _ => dt,
-    }
-}
-
-// Offsets 0 to 3.
-fn head(s: &mut [u8], ty: u8, word: u16)
-    requires { length s.old ≡ 4 }
-    ensures { s.new ≡ ty ∷ 0 ∷ word / 256 ∷ word % 256 ∷ [] }
-{
-    s[0] = ty;
-    s[1] = 0;
-    s[2] = (word / 256) as u8;
-    s[3] = (word % 256) as u8;
-}
-
-// Offsets 24 to 41.
-fn tail(s: &mut [u8], ty: u8, rate: u8, dl: u32)
-    requires { length s.old ≡ 18 }
-    ensures { (t : List ℕ) (dt : ℕ) → s.new ≡ tail_of (fields_of ty t rate dt dl) }
-{
-    fill(s);
-    match ty {
-        FunctionType::CV => {}
-        FunctionType::FFD => {
-            s[0] = rate;
-        }
-        _ => {
-            s[0] = (dl / 16777216) as u8;
-            s[1] = (dl / 65536 % 256) as u8;
-            s[2] = (dl / 256 % 256) as u8;
-            s[3] = (dl % 256) as u8;
-        }
-    }
+    tail
 }
 
 // Offsets 42 and 43, from those before them.
@@ -74,27 +44,27 @@ fn seal(s: &mut [u8])
     requires { length s.old ≡ 44 }
     ensures { s.new ≡ take 42 s.old ++ bip (take 42 s.old) }
 {
-    let even = every_second(&s[..BIP], 0);
-    let odd = every_second(&s[..BIP], 1);
-    s[BIP] = even;
-    s[BIP + 1] = odd;
+    let bip = bip16(&s[..BIP]);
+    s[BIP..].copy_from_slice(&bip);
 }
 
-// The payload of the type's fields, into the first 44 octets lent: 0, or 12 where the type or a field of its row breaks its
-// rule, or 11 where fewer are lent. A refusal writes nothing.
-pub fn write(ty: u8, ttsi: &[u8], rate: u8, dt: u16, dl: u32, buf: &mut [u8]) -> u8
-    ensures { (result, buf.new) ≡ write_of ty ttsi.now rate dt dl buf.old }
+// The payload of the type's fields, into the first 44 octets lent: 12 where the type or a field of its row breaks its
+// rule, or 11 where fewer are lent. A refusal writes nothing. Type, rate and defect type are any numbers, as `write_of` takes them.
+pub fn write(ty: u8, ttsi: &[u8], rate: u8, dt: u16, dl: u32, buf: &mut [u8]) -> Result<(), Refusal>
+    ensures { (number_in result, buf.new) ≡ write_of ty ttsi.now rate dt dl buf.old }
 {
-    if !may_write(ty, ttsi, rate, dt) {
-        return 12;
-    }
+    let Ok(ty) = FunctionType::try_from(ty) else {
+        return Err(Refusal::Value);
+    };
+    let Some(found) = row(ty, ttsi, rate, dt, dl) else {
+        return Err(Refusal::Value);
+    };
     if buf.len() < LENGTH {
-        return 11;
+        return Err(Refusal::Short);
     }
-    let word = word_of(ty, dt);
-    head(&mut buf[..TTSI], ty, word);
-    copy(&mut buf[TTSI..OWN], ttsi);
-    tail(&mut buf[OWN..BIP], ty, rate, dl);
+    buf[..TTSI].copy_from_slice(&head(found));
+    buf[TTSI..OWN].copy_from_slice(ttsi);
+    buf[OWN..BIP].copy_from_slice(&tail(found));
     seal(&mut buf[..LENGTH]);
-    0
+    Ok(())
 }

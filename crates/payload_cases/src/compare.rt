@@ -1,62 +1,49 @@
 // What a write leaves in 50 octets of aa.
 use crate::samples::{Fields, Payload};
-use crate::text::add;
 use payload::LENGTH;
+use refusal::Refusal;
+
+// What a buffer holds before a call writes into it.
+pub(crate) const FILL: u8 = 0xAA;
 
 // How many octets are the same at the same offset.
-pub(crate) fn alike(a: &[u8], b: &[u8]) -> u32 {
-    let mut n: u32 = 0;
-    let mut i = 0;
-    while i < a.len() {
-        if i >= b.len() {
-            return n;
-        }
-        if a[i] == b[i] {
-            n = add(n, 1);
-        }
-        i += 1;
-    }
-    n
+pub(crate) fn alike(a: &[u8], b: &[u8]) -> usize {
+    a.iter().zip(b).filter(|(x, y)| **x == **y).count()
 }
 
-// How many octets are aa, from an offset on.
-pub(crate) fn left(b: &[u8], from: usize) -> u32 {
-    let mut n: u32 = 0;
-    let mut i = from;
-    while i < b.len() {
-        if b[i] == 0xAA {
-            n = add(n, 1);
-        }
-        i += 1;
-    }
-    n
+// How many octets are aa.
+pub(crate) fn left(b: &[u8]) -> usize {
+    b.iter().filter(|octet| **octet == FILL).count()
 }
 
 // The answer, the octets that are those of a given payload, and those after the first 44 that are still aa.
-#[derive(Drop)]
+#[derive(Clone, Copy, PartialEq, Eq)]
 pub(crate) struct Outcome {
-    pub number: u8,
-    pub alike: u32,
-    pub left: u32,
+    pub answer: Result<(), Refusal>,
+    pub alike: usize,
+    pub left: usize,
 }
 
 impl Outcome {
+    // Of a write that gives the payload.
+    pub(crate) const WHOLE: Outcome = Outcome {
+        answer: Ok(()),
+        alike: 44,
+        left: 6,
+    };
+
     pub(crate) fn of(p: &Payload, fields: Fields, ttsi: &[u8]) -> Outcome {
-        let mut b = [0xAAu8; 50];
-        let number = fields.write(ttsi, &mut b);
+        let mut b = [FILL; 50];
+        let answer = fields.write(ttsi, &mut b);
         Outcome {
-            number,
+            answer,
             alike: alike(p, &b),
-            left: left(&b, LENGTH),
+            left: left(&b[LENGTH..]),
         }
     }
 
     // Of what was read of the payload.
     pub(crate) fn again(p: &Payload) -> Outcome {
         Outcome::of(p, Fields::read(p), payload::ttsi(p))
-    }
-
-    pub(crate) fn is_whole(self) -> bool {
-        self.number == 0 && self.alike == 44 && self.left == 6
     }
 }

@@ -1,134 +1,109 @@
 // Payloads of another length, with a bit changed, and with an octet changed and BIP16 put right.
-ghost use Rattle.std.specs.Prelude.{◌≡◌, length};
-
 use crate::compare::Outcome;
-use crate::samples::{Fields, Payload};
-use crate::text::{Counts, add};
-use crate::{samples, text};
+use crate::counts::Counts;
+use crate::samples::{Payload, p1, samples};
+use std::io;
 
-// P1 with zeros after it.
-fn longer() -> [u8; 64]
-    ensures { 64 ≡ length result }
-{
-    let t = samples::T;
-    let mut p = [0u8; 64];
-    Fields::of(1).write(&t, &mut p);
-    p
+// What damaged payloads were answered, and how many octets of each were handed back as its TTSI.
+struct Damages {
+    answers: Counts,
+    ttsis: Counts,
 }
 
-// What is answered of the first octets.
-fn cut(p: &[u8], n: usize) -> u8 {
-    if n > p.len() {
-        return 255;
+impl Damages {
+    fn none() -> Damages {
+        Damages {
+            answers: Counts::none(),
+            ttsis: Counts::none(),
+        }
     }
-    payload::read(&p[0..n]).number()
-}
 
-fn lengths(answers: &mut Counts) {
-    let p = longer();
-    for n in 0..65 {
-        text::count(answers, cut(&p, n));
+    fn look(&mut self, p: &Payload) {
+        self.answers.count(refusal::number(payload::read(p)));
+        let ttsi = payload::ttsi(p).len();
+        self.ttsis.count(u8::try_from(ttsi).unwrap_or(u8::MAX));
     }
 }
 
-fn answer(p: &Payload) -> u8 {
-    payload::read(p).number()
-}
-
-// Changes the bits of x at an offset.
-fn change(p: &mut Payload, at: usize, x: u8) {
-    if at < 44 {
-        p[at] = p[at] ^ x;
+// Each of the 352 bits. By offset, here and below: the place that is damaged is what is tried.
+fn bits(p: &Payload) -> Damages {
+    let mut damages = Damages::none();
+    for at in 0..44 {
+        for bit in [1, 2, 4, 8, 16, 32, 64, 128] {
+            let mut q = *p;
+            q[at] ^= bit;
+            damages.look(&q);
+        }
     }
-}
-
-// How many octets of it are handed back as its TTSI.
-fn ttsi(p: &Payload) -> u8 {
-    let n = payload::ttsi(p).len();
-    if n < 256 { n as u8 } else { 255 }
-}
-
-// Each of the 352 bits.
-fn bits(n: u32, answers: &mut Counts, ttsis: &mut Counts) {
-    let p = samples::sample(n);
-    for k in 0..352 {
-        let mut q = p;
-        change(&mut q, k / 8, 1u8 << (k % 8));
-        text::count(answers, answer(&q));
-        text::count(ttsis, ttsi(&q));
-    }
+    damages
 }
 
 // 42 octets, 255 other values of each; how many of these come back octet for octet when they are written again.
-fn octets(n: u32, answers: &mut Counts, ttsis: &mut Counts) -> u32 {
-    let p = samples::sample(n);
-    let mut back: u32 = 0;
-    for k in 0..10710 {
-        let at = k / 255;
-        let x = (k % 255 + 1) as u8;
-        let mut q = p;
-        change(&mut q, at, x);
-        change(&mut q, 42 + at % 2, x);
-        text::count(answers, answer(&q));
-        text::count(ttsis, ttsi(&q));
-        back = add(back, Outcome::again(&q).is_whole() as u32);
+fn octets(p: &Payload) -> (Damages, u32) {
+    let mut damages = Damages::none();
+    let mut back = 0u32;
+    for at in 0..42 {
+        for x in 1..=255 {
+            let mut q = *p;
+            q[at] ^= x;
+            q[42 + at % 2] ^= x;
+            damages.look(&q);
+            if Outcome::again(&q) == Outcome::WHOLE {
+                back = back.saturating_add(1);
+            }
+        }
     }
-    back
+    (damages, back)
 }
 
-fn claim_lengths() {
+// P1 with zeros after it.
+fn longer() -> [u8; 64] {
+    let mut p = [0; 64];
+    p1().write(&mut p).ok();
+    p
+}
+
+// The answer to the first n octets, by its number.
+fn answer(p: &[u8; 64], n: usize) -> u8 {
+    refusal::number(payload::read(&p[..n.min(64)]))
+}
+
+fn claim_lengths(rt: &impl Print) -> io::Result<()> {
     let p = longer();
-    let mut answers = [0u32; 256];
-    lengths(&mut answers);
-    text::claim_answers(
-        b"P1 CV, cut or followed by zeros to each length from 0 to 64",
-        &answers,
-    );
-    text::claim_three(
-        b"P1 CV, so at 0, 43 and 45 octets, answers:",
-        cut(&p, 0) as u32,
-        cut(&p, 43) as u32,
-        cut(&p, 45) as u32,
-    );
+    let mut counts = Counts::none();
+    for n in 0..=64 {
+        counts.count(answer(&p, n));
+    }
+    println!(rt;
+        "P1 CV, cut or followed by zeros to each length from 0 to 64, answer:times{counts}"
+    )?;
+    let none = answer(&p, 0);
+    let less = answer(&p, 43);
+    let more = answer(&p, 45);
+    println!(rt; "P1 CV, so at 0, 43 and 45 octets, answers: {none} {less} {more}")
 }
 
-fn claim_bits(n: u32) {
-    let mut answers = [0u32; 256];
-    let mut ttsis = [0u32; 256];
-    bits(n, &mut answers, &mut ttsis);
-    samples::name(n);
-    text::claim_answers(b"each bit changed by itself", &answers);
-    samples::name(n);
-    text::claim_counts(b"so damaged, octets of TTSI handed back:times", &ttsis);
+fn claim_bits(rt: &impl Print, name: &str, p: &Payload) -> io::Result<()> {
+    let Damages { answers, ttsis } = bits(p);
+    println!(rt; "{name}, each bit changed by itself, answer:times{answers}")?;
+    println!(rt; "{name}, so damaged, octets of TTSI handed back:times{ttsis}")
 }
 
-fn claim_octets(n: u32) {
-    let mut answers = [0u32; 256];
-    let mut ttsis = [0u32; 256];
-    let back = octets(n, &mut answers, &mut ttsis);
-    samples::name(n);
-    text::claim_answers(
-        b"each octet of 0 to 41 changed to each other value and BIP16 made right",
-        &answers,
-    );
-    samples::name(n);
-    text::claim_counts(b"so changed, octets of TTSI handed back:times", &ttsis);
-    samples::name(n);
-    text::claim(
-        b"so changed, accepted and written again octet for octet:",
-        back,
-    );
+fn claim_octets(rt: &impl Print, name: &str, p: &Payload) -> io::Result<()> {
+    let (Damages { answers, ttsis }, back) = octets(p);
+    println!(rt;
+        "{name}, each octet of 0 to 41 changed to each other value and BIP16 made right, answer:times{answers}"
+    )?;
+    println!(rt; "{name}, so changed, octets of TTSI handed back:times{ttsis}")?;
+    println!(rt; "{name}, so changed, accepted and written again octet for octet: {back}")
 }
 
-fn claims_of(n: u32) {
-    claim_bits(n);
-    claim_octets(n);
-}
-
-pub(crate) fn claims() {
-    claim_lengths();
-    claims_of(1);
-    claims_of(2);
-    claims_of(3);
-    claims_of(4);
+pub(crate) fn claims(rt: &impl Print) -> io::Result<()> {
+    claim_lengths(rt)?;
+    for sample in samples() {
+        let p = sample.payload();
+        claim_bits(rt, sample.name, &p)?;
+        claim_octets(rt, sample.name, &p)?;
+    }
+    Ok(())
 }

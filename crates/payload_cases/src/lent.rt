@@ -1,57 +1,43 @@
 // Lent buffers of every length.
-use crate::samples::Fields;
-use crate::text::{Counts, add};
-use crate::{compare, samples, text};
+use crate::compare::{FILL, left};
+use crate::counts::Counts;
+use crate::samples::{Fields, Sample, T, samples};
 use payload::FunctionType;
+use std::io;
 
-// The answer of a write into the first octets.
-fn into(n: u32, b: &mut [u8], size: usize) -> u8 {
-    let t = samples::ttsi(n);
-    if size > b.len() {
-        return 255;
-    }
-    Fields::of(n).write(&t, &mut b[0..size])
-}
+const SIZE: usize = 64;
 
 // The first 0 to 64 of 64 octets of aa; how many times all 64 were left.
-fn sizes(n: u32, answers: &mut Counts) -> u32 {
-    let mut kept: u32 = 0;
-    for size in 0..65 {
-        let mut b = [0xAAu8; 64];
-        text::count(answers, into(n, &mut b, size));
-        kept = add(kept, (compare::left(&b, 0) == 64) as u32);
+fn claim_sizes(rt: &impl Print, sample: Sample) -> io::Result<()> {
+    let name = sample.name;
+    let mut answers = Counts::none();
+    let mut kept = 0u32;
+    for size in 0..=SIZE {
+        let mut b = [FILL; SIZE];
+        answers.count(refusal::number(sample.write(&mut b[..size])));
+        kept = kept.saturating_add(u32::from(left(&b) == SIZE));
     }
-    kept
+    println!(rt; "{name}, written into 0 to 64 octets of aa, answer:times{answers}")?;
+    println!(rt; "{name}, so written, buffers left as they were: {kept}")
 }
 
-fn claim_sizes(n: u32) {
-    let mut answers = [0u32; 256];
-    let kept = sizes(n, &mut answers);
-    samples::name(n);
-    text::claim_answers(b"written into 0 to 64 octets of aa", &answers);
-    samples::name(n);
-    text::claim(b"so written, buffers left as they were:", kept);
-}
-
-fn into_43(words: &[u8], fields: Fields) {
-    let t = samples::T;
-    let mut b = [0xAAu8; 43];
-    let number = fields.write(&t, &mut b);
-    text::words(words);
-    text::claim_two(
-        b" with T into 43 octets of aa, answer, octets untouched:",
-        number as u32,
-        compare::left(&b, 0),
-    );
-}
-
-pub(crate) fn claims() {
-    claim_sizes(1);
-    claim_sizes(2);
-    claim_sizes(3);
-    claim_sizes(4);
-    into_43(b"CV", Fields::of(1));
-    into_43(b"type 0", Fields::new(0, 0, 0, 0));
-    into_43(b"FFD rate 0", Fields::new(FunctionType::FFD, 0, 0, 0));
-    into_43(b"FDI DT 0000", Fields::new(FunctionType::FDI, 0, 0, 0));
+pub(crate) fn claims(rt: &impl Print) -> io::Result<()> {
+    for sample in samples() {
+        claim_sizes(rt, sample)?;
+    }
+    let refused = [
+        ("CV", Fields::of_type(FunctionType::Cv as u8)),
+        ("type 0", Fields::of_type(0)),
+        ("FFD rate 0", Fields::ffd(0)),
+        ("FDI DT 0000", Fields::defect(FunctionType::Fdi as u8, 0, 0)),
+    ];
+    for (words, fields) in refused {
+        let mut b = [FILL; 43];
+        let number = refusal::number(fields.write(&T, &mut b));
+        let kept = left(&b);
+        println!(rt;
+            "{words} with T into 43 octets of aa, answer, octets untouched: {number} {kept}"
+        )?;
+    }
+    Ok(())
 }

@@ -2,20 +2,22 @@
 #![tactic(auto)]
 
 mod compare;
+mod counts;
 mod damaged;
 mod lent;
 mod samples;
 mod swept;
 mod tables;
-mod text;
 mod ttsis;
 mod written;
 
-fn main() {
-    written::claims();
-    damaged::claims();
-    swept::claims();
-    tables::claims();
-    lent::claims();
-    ttsis::claims();
+use std::io;
+
+fn main(rt: HostRuntime) -> io::Result<()> {
+    written::claims(&rt)?;
+    damaged::claims(&rt)?;
+    swept::claims(&rt)?;
+    tables::claims(&rt)?;
+    lent::claims(&rt)?;
+    ttsis::claims(&rt)
 }

@@ -1,87 +1,60 @@
 // TTSIs of every length, and tunnel numbers that do not begin with two zeros.
-use crate::samples::Fields;
-use crate::text::Counts;
-use crate::{samples, text};
+use crate::counts::Counts;
+use crate::samples::{Fields, Sample, p1, samples};
+use payload::LENGTH;
+use std::io;
 
-fn answer(n: u32, ttsi: &[u8]) -> u8 {
-    let mut b = [0u8; 44];
-    Fields::of(n).write(ttsi, &mut b)
+// What a write with the TTSI answers, by its number.
+fn answer(fields: Fields, ttsi: &[u8]) -> u8 {
+    let mut b = [0; LENGTH];
+    refusal::number(fields.write(ttsi, &mut b))
 }
 
-// To so many zeros.
-fn answer_zeros(n: u32, size: usize) -> u8 {
-    let t = [0u8; 64];
-    if size > 64 {
-        return 255;
+// TTSIs of so many zeros.
+fn lengths(fields: Fields) -> Counts {
+    let mut answers = Counts::none();
+    for n in 0..=64 {
+        answers.count(answer(fields, &[0; 64][..n]));
     }
-    answer(n, &t[0..size])
+    answers
 }
 
-fn lengths(n: u32, answers: &mut Counts) {
-    for size in 0..65 {
-        text::count(answers, answer_zeros(n, size));
+// Octets 16 and 17, 255 values of each. By offset: the place that is changed is what is tried.
+fn tunnels(sample: Sample) -> Counts {
+    let mut answers = Counts::none();
+    for at in 16..18 {
+        for x in 1..=255 {
+            let mut t = sample.ttsi;
+            t[at] = x;
+            answers.count(answer(sample.fields, &t));
+        }
     }
+    answers
 }
 
-fn put(t: &mut [u8; 20], at: usize, x: u8) {
-    if at < 20 {
-        t[at] = x;
+fn claim(rt: &impl Print, words: &str, t: &[u8]) -> io::Result<()> {
+    let is_ttsi = u8::from(payload::is_ttsi(t));
+    let number = answer(p1().fields, t);
+    println!(rt; "{words}, whether they are a TTSI, answer as CV: {is_ttsi} {number}")
+}
+
+pub(crate) fn claims(rt: &impl Print) -> io::Result<()> {
+    for sample in samples() {
+        let name = sample.name;
+        let lengths = lengths(sample.fields);
+        println!(rt; "{name}, written with a TTSI of 0 to 64 zeros, answer:times{lengths}")?;
+        let tunnels = tunnels(sample);
+        println!(rt;
+            "{name}, written with each value but 0 in octet 16 or 17 of the TTSI, answer:times{tunnels}"
+        )?;
     }
-}
-
-fn answer_20(n: u32, t: &[u8; 20]) -> u8 {
-    answer(n, t)
-}
-
-// Octets 16 and 17, 255 values of each.
-fn tunnels(n: u32, answers: &mut Counts) {
-    for k in 0..510 {
-        let mut t = samples::ttsi(n);
-        put(&mut t, 16 + k / 255, (k % 255 + 1) as u8);
-        text::count(answers, answer_20(n, &t));
-    }
-}
-
-fn claims_of(n: u32) {
-    let mut answers = [0u32; 256];
-    lengths(n, &mut answers);
-    samples::name(n);
-    text::claim_answers(b"written with a TTSI of 0 to 64 zeros", &answers);
-    let mut refused = [0u32; 256];
-    tunnels(n, &mut refused);
-    samples::name(n);
-    text::claim_answers(
-        b"written with each value but 0 in octet 16 or 17 of the TTSI",
-        &refused,
-    );
-}
-
-fn claim(words: &[u8], t: &[u8]) {
-    text::words(words);
-    text::claim_two(
-        b", whether they are a TTSI, answer as CV:",
-        payload::is_ttsi(t) as u32,
-        answer(1, t) as u32,
-    );
-}
-
-fn claim_edges() {
-    let zeros = [0u8; 21];
-    claim(b"19 zeros", &zeros[0..19]);
-    claim(b"20 zeros", &zeros[0..20]);
-    claim(b"21 zeros", &zeros);
-    let mut t = [0u8; 20];
+    claim(rt, "19 zeros", &[0; 19])?;
+    claim(rt, "20 zeros", &[0; 20])?;
+    claim(rt, "21 zeros", &[0; 21])?;
+    let mut t = [0; 20];
     t[16] = 1;
-    claim(b"20 zeros but octet 16", &t);
-    t[16] = 0;
+    claim(rt, "20 zeros but octet 16", &t)?;
+    let mut t = [0; 20];
     t[17] = 1;
-    claim(b"20 zeros but octet 17", &t);
-}
-
-pub(crate) fn claims() {
-    claims_of(1);
-    claims_of(2);
-    claims_of(3);
-    claims_of(4);
-    claim_edges();
+    claim(rt, "20 zeros but octet 17", &t)
 }

@@ -1,79 +1,49 @@
 // P1 to P4, written, read, and written again.
-use crate::compare::Outcome;
-use crate::samples::Fields;
-use crate::{compare, samples, text};
+use crate::compare::{Outcome, alike};
+use crate::samples::{Fields, Payload, Sample, samples};
+use std::{fmt, io};
 
-fn word(hi: u8, lo: u8) -> u32 {
-    (hi as u32) * 256 + (lo as u32)
+impl fmt::Display for Outcome {
+    fn fmt<W: fmt::Write>(&self, f: &mut fmt::Formatter<W>) -> fmt::Result {
+        let Outcome {
+            answer,
+            alike,
+            left,
+        } = *self;
+        let number = refusal::number(answer);
+        write!(
+            f,
+            "answer, octets the same, octets after them untouched: {number} {alike} {left}"
+        )
+    }
 }
 
-fn bip16(n: u32) {
-    let p = samples::sample(n);
-    samples::name(n);
-    text::words(b"BIP16:");
-    text::hex(word(p[42], p[43]), 4);
-    text::words(b"\n");
-}
-
-fn read(n: u32) {
-    let p = samples::sample(n);
-    let f = Fields::read(&p);
-    samples::name(n);
-    text::words(b"read back, number, type, rate, DT, DL:");
-    text::number(payload::read(&p).number() as u32);
-    text::hex(f.ty as u32, 2);
-    text::hex(f.rate as u32, 2);
-    text::hex(f.dt as u32, 4);
-    text::hex(f.dl, 8);
-    text::words(b"\n");
-}
-
-fn ttsi(n: u32) {
-    let p = samples::sample(n);
-    let t = samples::ttsi(n);
-    samples::name(n);
-    text::claim(
-        b"octets of the TTSI handed back as they were given:",
-        compare::alike(&t, payload::ttsi(&p)),
-    );
-}
-
-fn show(o: Outcome) {
-    text::claim_three(
-        b"answer, octets the same, octets after them untouched:",
-        o.number as u32,
-        o.alike,
-        o.left,
-    );
-}
-
-fn again(n: u32) {
-    let p = samples::sample(n);
-    samples::name(n);
-    text::words(b"what was read written again into 50 octets of aa, ");
-    show(Outcome::again(&p));
+fn read(rt: &impl Print, name: &str, p: &Payload) -> io::Result<()> {
+    let number = refusal::number(payload::read(p));
+    let Fields { ty, rate, dt, dl } = Fields::read(p);
+    println!(rt;
+        "{name}, read back, number, type, rate, DT, DL: {number} {ty:02x} {rate:02x} {dt:04x} {dl:08x}"
+    )
 }
 
 // A writer looks at no fields but those that the row names.
-fn crowded(n: u32) {
-    let p = samples::sample(n);
-    let t = samples::ttsi(n);
-    samples::name(n);
-    text::words(b"written with all ones in the fields of other rows, ");
-    show(Outcome::of(&p, Fields::of(n).crowded(), &t));
+fn claims_of(rt: &impl Print, sample: Sample) -> io::Result<()> {
+    let name = sample.name;
+    let p = sample.payload();
+    let bip16 = u16::from_be_bytes([p[42], p[43]]);
+    println!(rt; "{name}, BIP16: {bip16:04x}")?;
+    read(rt, name, &p)?;
+    let ttsi = alike(&sample.ttsi, payload::ttsi(&p));
+    println!(rt; "{name}, octets of the TTSI handed back as they were given: {ttsi}")?;
+    let again = Outcome::again(&p);
+    println!(rt; "{name}, what was read written again into 50 octets of aa, {again}")?;
+    let crowded = Outcome::of(&p, sample.fields.crowded(), &sample.ttsi);
+    println!(rt; "{name}, written with all ones in the fields of other rows, {crowded}")
 }
 
-fn claims_of(n: u32) {
-    bip16(n);
-    read(n);
-    ttsi(n);
-    again(n);
-    crowded(n);
-}
-
-pub(crate) fn claims() {
-    claims_of(1);
-    claims_of(2);
-    claims_of(3);
-    claims_of(4);
+pub(crate) fn claims(rt: &impl Print) -> io::Result<()> {
+    for sample in samples() {
+        claims_of(rt, sample)?;
+    }
+    Ok(())
 }

@@ -2,95 +2,85 @@
 #![tactic(auto)]
 
 use payload::{DefectType, Found, FunctionType, LENGTH, Rate};
+use refusal::Refusal;
+use std::{fmt, io};
 
-// The descriptor of standard output.
-const STDOUT: i32 = 1;
-
+// Each program has its own: in a crate of theirs each call would need a promise and two wrong answers, and be longer for it.
 const T: [u8; 20] = *b"\0\0\0\0\0\0\0\0\0\0\xff\xff\xc0\x00\x02\x01\0\0\0\x07";
 
-fn text(s: &[u8]) {
-    io::write_all(STDOUT, s);
-}
+// Octets, two hexadecimal digits each.
+#[derive(Clone, Copy)]
+struct Octets<'a>(&'a [u8]);
 
-fn wide(octet: u8) -> u64 {
-    octet as u64
-}
-
-fn octets(s: &[u8]) {
-    let mut i = 0;
-    while i < s.len() {
-        io::print_hex(STDOUT, wide(s[i]), 2);
-        i += 1;
+impl<'a> fmt::Display for Octets<'a> {
+    fn fmt<W: fmt::Write>(&self, f: &mut fmt::Formatter<W>) -> fmt::Result {
+        for octet in self.0 {
+            write!(f, "{octet:02x}")?;
+        }
+        Ok(())
     }
 }
 
-fn column(s: &[u8]) {
-    octets(s);
-    text(b" ");
-}
-
 // What the reader answers.
-fn show(found: Found) {
-    match found {
-        Found::Cv => text(b"CV"),
-        Found::Ffd { rate } => show_rate(rate),
-        Found::Fdi { dt, dl } => show_defect(b"FDI dt ", dt, dl),
-        Found::Bdi { dt, dl } => show_defect(b"BDI dt ", dt, dl),
-        Found::Refused { number } => {
-            text(b"refused ");
-            io::print_decimal(STDOUT, number as u64);
+#[derive(Drop)]
+struct Read(Result<Found, Refusal>);
+
+impl fmt::Display for Read {
+    fn fmt<W: fmt::Write>(&self, f: &mut fmt::Formatter<W>) -> fmt::Result {
+        match self.0 {
+            Ok(Found::Cv) => write!(f, "CV"),
+            Ok(Found::Ffd { rate }) => write!(f, "FFD rate {rate}: {} ms", Rate::interval(rate)),
+            Ok(Found::Fdi { dt, dl }) => write!(f, "FDI dt {:04x} dl {dl:08x}", dt as u16),
+            Ok(Found::Bdi { dt, dl }) => write!(f, "BDI dt {:04x} dl {dl:08x}", dt as u16),
+            Err(refusal) => write!(f, "refused {}", u8::from(refusal)),
         }
     }
 }
 
-fn show_rate(rate: u8) {
-    text(b"FFD rate ");
-    io::print_decimal(STDOUT, rate as u64);
-    text(b": ");
-    io::print_decimal(STDOUT, Rate::interval(rate) as u64);
-    text(b" ms");
-}
-
-fn show_defect(words: &[u8], dt: u16, dl: u32) {
-    text(words);
-    io::print_hex(STDOUT, dt as u64, 4);
-    text(b" dl ");
-    io::print_hex(STDOUT, dl as u64, 8);
-}
-
 // A line of the table. The TTSI's column is the part that the TTSI call hands back.
-fn line(name: &[u8], p: &[u8; LENGTH]) {
-    let s = &p[..];
-    text(name);
-    column(&s[0..1]);
-    column(&s[1..2]);
-    column(&s[2..4]);
-    column(payload::ttsi(s));
-    column(&s[24..42]);
-    column(&s[42..44]);
-    text(b" ");
-    show(payload::read(s));
-    text(b"\n");
+fn line(rt: &impl Print, name: &str, p: &[u8; LENGTH]) -> io::Result<()> {
+    let head = Octets(&p[..1]);
+    let reserved = Octets(&p[1..2]);
+    let dt = Octets(&p[2..4]);
+    let ttsi = Octets(payload::ttsi(p));
+    let rest = Octets(&p[24..42]);
+    let bip16 = Octets(&p[42..]);
+    let read = Read(payload::read(p));
+    println!(rt; "{name:<5}{head} {reserved} {dt} {ttsi} {rest} {bip16}  {read}")
 }
 
 // What the writer makes of the fields; where it refuses them, zeros, which the reader refuses.
-fn row(name: &[u8], ty: u8, ttsi: &[u8], rate: u8, dt: u16, dl: u32) {
-    let mut p = [0u8; LENGTH];
-    payload::write(ty, ttsi, rate, dt, dl, &mut p);
-    line(name, &p);
+fn row(
+    rt: &impl Print,
+    name: &str,
+    ty: FunctionType,
+    ttsi: &[u8],
+    rate: u8,
+    dt: u16,
+    dl: u32,
+) -> io::Result<()> {
+    let mut p = [0; LENGTH];
+    payload::write(ty as u8, ttsi, rate, dt, dl, &mut p).ok();
+    line(rt, name, &p)
 }
 
-fn defect_row(name: &[u8], ty: u8) {
-    let none = [0u8; 20];
-    row(name, ty, &none, 0, DefectType::LOCV, 0x0000_FDE8);
+fn defect_row(rt: &impl Print, name: &str, ty: FunctionType) -> io::Result<()> {
+    row(
+        rt,
+        name,
+        ty,
+        &[0; 20],
+        0,
+        DefectType::Locv as u16,
+        0x0000_FDE8,
+    )
 }
 
-fn main() {
-    let t = T;
-    text(b"type 0  1  2-3  4-23                                     ");
-    text(b"24-41                                42-43 read\n");
-    row(b"CV   ", FunctionType::CV, &t, 0, 0, 0);
-    row(b"FFD  ", FunctionType::FFD, &t, 3, 0, 0);
-    defect_row(b"FDI  ", FunctionType::FDI);
-    defect_row(b"BDI  ", FunctionType::BDI);
+fn main(rt: HostRuntime) -> io::Result<()> {
+    let rt = &rt;
+    println!(rt; "{:<57}{:<37}42-43 read", "type 0  1  2-3  4-23", "24-41")?;
+    row(rt, "CV", FunctionType::Cv, &T, 0, 0, 0)?;
+    row(rt, "FFD", FunctionType::Ffd, &T, 3, 0, 0)?;
+    defect_row(rt, "FDI", FunctionType::Fdi)?;
+    defect_row(rt, "BDI", FunctionType::Bdi)
 }

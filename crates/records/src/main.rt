@@ -5,128 +5,84 @@
 
 use events::{Reckoning, Rest};
 use std::io;
-use std::io::{ErrorKind, Read, Stdin};
+use std::io::{ErrorKind, Read};
 
 // Room for thousands of fields, and for the lines of some 8,000 events: where a read brings more, it takes another run.
 const INPUT: usize = 131072;
 
 const OUTPUT: usize = 524288;
 
-// Where the program is, how many octets it holds back, and whether more are wanted.
+// Where the program is, and how many octets it holds back at the front of its input, whose memory is lent and fixed.
 #[derive(Clone, Copy)]
 struct Held {
-    pub reckoning: Reckoning,
-    pub octets: usize,
-    pub more: bool,
+    reckoning: Reckoning,
+    octets: usize,
 }
 
-// Lines written; whether they were. An error where nobody reads them.
-fn say(rt: &impl Print, out: &[u8], n: usize) -> io::Result<bool> {
-    if out.len() < n {
-        return Ok(false);
-    }
-    rt.write_all(&out[..n])?;
-    Ok(true)
-}
-
+// The last line, after which the program is over.
 fn last(rt: &impl Print, r: Reckoning, whole: bool, out: &mut [u8]) -> io::Result<()> {
     let n = r.finish(whole, out);
-    say(rt, out, n)?;
-    Ok(())
+    rt.write_all(out.get(..n).unwrap_or(&[]))
 }
 
-fn over(r: Reckoning) -> Held {
-    Held {
-        reckoning: r,
-        octets: 0,
-        more: false,
-    }
-}
-
-// The octets from a place on, moved to the front. How many they are.
-fn front(buf: &mut [u8], from: usize, upto: usize) -> usize {
-    let mut n = 0;
-    let mut i = from;
-    while i < upto {
-        if buf.len() <= i {
-            return n;
-        }
-        buf[n] = buf[i];
-        n += 1;
-        i += 1;
-    }
-    n
-}
-
-// The events that are whole in the octets at hand, run by run; what is left waits at the front for more.
+// The events that are whole in the octets, run by run, and how many octets wait for more; none where the input has gone bad.
 fn taken(
     rt: &impl Print,
-    r: Reckoning,
-    buf: &mut [u8],
-    have: usize,
+    reckoning: Reckoning,
+    octets: &[u8],
     out: &mut [u8],
-) -> io::Result<Held> {
-    let mut next = r;
-    let mut at = 0;
-    let mut turns = u64::MAX;
-    while 0 < turns {
-        turns -= 1;
-        if buf.len() < have {
-            return Ok(over(next));
-        }
-        let ran = next.run(&buf[at..have], out);
-        next = ran.next;
-        let text = ran.text;
-        if !say(rt, out, text)? {
-            return Ok(over(next));
-        }
-        let octets = ran.taken;
-        if have - at < octets {
-            return Ok(over(next));
-        }
-        at += octets;
-        let rest = ran.rest;
-        match rest {
-            Rest::Going => {}
-            Rest::Cut => {
-                return Ok(Held {
-                    reckoning: next,
-                    octets: front(buf, at, have),
-                    more: true,
-                });
+) -> io::Result<Option<Held>> {
+    let mut reckoning = reckoning;
+    let mut left = octets;
+    for _ in 0..u64::MAX {
+        let ran = reckoning.run(left, out);
+        reckoning = ran.next;
+        rt.write_all(out.get(..ran.text).unwrap_or(&[]))?;
+        left = left.get(ran.taken..).unwrap_or(&[]);
+        match ran.rest {
+            None => {}
+            Some(Rest::Cut) => {
+                let octets = left.len();
+                return Ok(Some(Held { reckoning, octets }));
             }
-            Rest::Bad => {
-                last(rt, next, false, out)?;
-                return Ok(over(next));
+            Some(Rest::Bad) => {
+                last(rt, reckoning, false, out)?;
+                return Ok(None);
             }
         }
     }
-    Ok(over(next))
+    Ok(None)
 }
 
 // One read, and the events that it brings. At the end of the input, or where it can't be read, the last line; then the error of that read.
 fn fed(
     rt: &impl Print,
-    stdin: &mut Stdin,
+    stdin: &mut impl Read,
     held: Held,
     buf: &mut [u8],
     out: &mut [u8],
-) -> io::Result<Held> {
-    let r = held.reckoning;
-    let n = held.octets;
+) -> io::Result<Option<Held>> {
+    let Held { reckoning, octets } = held;
     // Never: less than one field is held back, at most 1,026 octets.
-    if buf.len() <= n {
-        return Ok(over(r));
+    if buf.len() <= octets {
+        return Ok(None);
     }
-    match stdin.read(&mut buf[n..]) {
+    match stdin.read(&mut buf[octets..]) {
         Ok(0) => {
-            last(rt, r, n == 0, out)?;
-            Ok(over(r))
+            last(rt, reckoning, octets == 0, out)?;
+            Ok(None)
         }
-        Ok(got) => taken(rt, r, buf, n + got, out),
-        Err(error) if error.kind() == ErrorKind::Interrupted => Ok(held),
+        Ok(got) => {
+            let have = octets + got;
+            let next = taken(rt, reckoning, &buf[..have], out)?;
+            if let Some(held) = next {
+                buf.copy_within(have.saturating_sub(held.octets)..have, 0);
+            }
+            Ok(next)
+        }
+        Err(error) if error.kind() == ErrorKind::Interrupted => Ok(Some(held)),
         Err(error) => {
-            last(rt, r, n == 0, out)?;
+            last(rt, reckoning, octets == 0, out)?;
             Err(error)
         }
     }
@@ -141,21 +97,16 @@ fn zeros<const N: usize>() -> [u8; N] {
 fn main(rt: HostRuntime) -> io::Result<()> {
     let mut stdin = rt.stdin();
     let mut input = zeros::<INPUT>();
-    let buf: &mut [u8] = &mut input;
     let mut output = zeros::<OUTPUT>();
-    let out: &mut [u8] = &mut output;
     let mut held = Held {
         reckoning: Reckoning::begin(),
         octets: 0,
-        more: true,
     };
-    let mut turns = u64::MAX;
-    while 0 < turns {
-        if !held.more {
+    for _ in 0..u64::MAX {
+        let Some(next) = fed(&rt, &mut stdin, held, &mut input, &mut output)? else {
             return Ok(());
-        }
-        held = fed(&rt, &mut stdin, held, buf, out)?;
-        turns -= 1;
+        };
+        held = next;
     }
     Ok(())
 }

@@ -1,87 +1,96 @@
 // A field of the stream: tag, length and content.
-ghost use Rattle.std.specs.Prelude.{◌<◌};
+use crate::input::Source;
+use crate::reading::Ttsi;
 
-use crate::input;
-use crate::input::{Content, Input, MOST, Source};
+// The longest content that is not bad.
+pub(crate) const MOST: usize = 1024;
 
-pub(crate) const ADD: u8 = 0x11;
+pub(crate) type Content = [u8; MOST];
 
-pub(crate) const PACKET: u8 = 0x12;
-
-pub(crate) const CLOSE: u8 = 0x13;
-
-pub(crate) const SERVER: u8 = 0x14;
-
-// A whole field with its tag and length, a bad one, or the end of the input where one would begin.
+// What a field says.
 #[derive(Drop)]
-pub(crate) enum Found {
-    Event { tag: u8, len: usize },
-    Bad,
-    End,
+pub(crate) enum Event<'a> {
+    Add { kind: u8, ttsi: &'a Ttsi },
+    Packet { lsp: u8, payload: &'a [u8] },
+    Close { lsp: u8 },
+    Server { lsp: u8 },
 }
 
-#[derive(Drop)]
-pub(crate) struct Field {
-    pub found: Found,
-    pub input: Input,
+// A field that says none of these, or that the input breaks off.
+#[derive(Clone, Copy)]
+pub(crate) struct Bad;
+
+#[derive(Clone, Copy)]
+enum Tag {
+    Add,
+    Packet,
+    Close,
+    Server,
 }
 
-fn wide(octet: u8) -> usize
-    ensures { result < 256 }
-{
-    octet as usize
-}
+impl TryFrom<u8> for Tag {
+    type Error = Bad;
 
-fn is_length(tag: u8, len: usize) -> bool {
-    match tag {
-        ADD => len == 25,
-        PACKET => len >= 1 && len <= MOST,
-        CLOSE => len == 1,
-        SERVER => len == 2,
-        _ => false,
+    fn try_from(octet: u8) -> Result<Tag, Bad> {
+        match octet {
+            0x11 => Ok(Tag::Add),
+            0x12 => Ok(Tag::Packet),
+            0x13 => Ok(Tag::Close),
+            0x14 => Ok(Tag::Server),
+            _ => Err(Bad),
+        }
     }
 }
 
-// The server octet is the last of its field.
-fn is_value(tag: u8, last: u8) -> bool {
-    tag != SERVER || last <= 1
-}
+impl Tag {
+    fn is_length(self, len: usize) -> bool {
+        match self {
+            Tag::Add => len == 25,
+            Tag::Packet => (1..=MOST).contains(&len),
+            Tag::Close => len == 1,
+            Tag::Server => len == 2,
+        }
+    }
 
-fn bad(input: Input) -> Field {
-    Field {
-        found: Found::Bad,
-        input,
+    // By a content of such a length. The DL of an add and the server octet go into no record, so they are not kept.
+    fn event(self, content: &[u8]) -> Option<Event<'_>> {
+        let (&first, rest) = content.split_first()?;
+        match self {
+            Tag::Add => Some(Event::Add {
+                kind: first,
+                ttsi: rest.first_chunk()?,
+            }),
+            Tag::Packet => Some(Event::Packet {
+                lsp: first,
+                payload: rest,
+            }),
+            Tag::Close => Some(Event::Close { lsp: first }),
+            Tag::Server => (*rest.first()? <= 1).then_some(Event::Server { lsp: first }),
+        }
     }
 }
 
 // What follows the tag.
-fn rest(source: &mut Source, content: &mut Content, tag: u8, input: Input) -> Field {
-    let high = input::next(source, input);
-    let low = input::next(source, high.input);
-    let len = wide(high.octet) * 256 + wide(low.octet);
-    if !low.is_there || !is_length(tag, len) {
-        return bad(low.input);
+fn rest<'a>(source: &mut Source, content: &'a mut Content, tag: u8) -> Option<Event<'a>> {
+    let high = source.next()?;
+    let low = source.next()?;
+    let len = usize::from(u16::from_be_bytes([high, low]));
+    let tag = Tag::try_from(tag).ok()?;
+    if !tag.is_length(len) {
+        return None;
     }
-    let last = input::fill(source, content, len, low.input);
-    if !last.is_there || !is_value(tag, last.octet) {
-        return bad(last.input);
-    }
-    let input = last.input;
-    Field {
-        found: Found::Event { tag, len },
-        input,
-    }
+    let content = content.get_mut(..len)?;
+    source.fill(content)?;
+    tag.event(content)
 }
 
-// The next field; its content is put into `content`.
-pub(crate) fn read(source: &mut Source, content: &mut Content, input: Input) -> Field {
-    let tag = input::next(source, input);
-    let input = tag.input;
-    if !tag.is_there {
-        return Field {
-            found: Found::End,
-            input,
-        };
+// The next field's event, its content put into `content`; none at the end of the input.
+pub(crate) fn read<'a>(
+    source: &mut Source,
+    content: &'a mut Content,
+) -> Result<Option<Event<'a>>, Bad> {
+    match source.next() {
+        Some(tag) => rest(source, content, tag).map(Some).ok_or(Bad),
+        None => Ok(None),
     }
-    rest(source, content, tag.octet, input)
 }

@@ -1,126 +1,86 @@
-// The paths that were added: what each one expects, and how many slots of it are closed.
+// The paths that were added: what each one expects, what came, and how many slots of it are closed.
+use crate::back::Record;
 use crate::reading;
+use crate::reading::{Kind, Ttsi};
+use crate::refusal::{NotDone, Refusal};
+use crate::slots::{ROW, Row};
 
 pub(crate) const MOST: usize = 64;
 
-// Twenty octets a path, one path after the other.
-type Ttsis = [u8; 1280];
-
+// Packets with the expected TTSI that are of the path's own kind are counted in `expected`, those with another in
+// `others`.
 #[derive(Clone, Copy)]
-pub(crate) struct Paths {
-    pub many: usize,
-    pub kinds: [u8; MOST],
-    pub ttsis: Ttsis,
-    pub closed: [usize; MOST],
+pub(crate) struct Path {
+    kind: Kind,
+    ttsi: Ttsi,
+    closed: usize,
+    pub expected: Row,
+    pub others: Row,
 }
 
-// The number of the answer, and the paths after it.
-#[derive(Drop)]
-pub(crate) struct Added {
-    pub number: u8,
-    pub paths: Paths,
-}
-
-pub(crate) fn none() -> Paths {
-    Paths {
-        many: 0,
-        kinds: [0; MOST],
-        ttsis: [0; 1280],
-        closed: [0; MOST],
-    }
-}
-
-// Whether path i expects the TTSI at `at` of s.
-fn is_expected(ttsis: &Ttsis, i: usize, s: &[u8], at: usize) -> bool {
-    for k in 0..20 {
-        if octet_of(ttsis, i, k) != reading::octet(s, std::num::wrapping_add_usize(at, k)) {
-            return false;
+impl Path {
+    fn new(kind: Kind, ttsi: Ttsi) -> Path {
+        Path {
+            kind,
+            ttsi,
+            closed: 0,
+            expected: Row::ZERO,
+            others: Row::ZERO,
         }
     }
-    true
-}
 
-// Octet k of what path i expects.
-fn octet_of(ttsis: &Ttsis, i: usize, k: usize) -> u8 {
-    if i < MOST {
-        if k < 20 {
-            return ttsis[i * 20 + k];
-        }
+    pub(crate) fn receive(&mut self, p: &[u8]) -> Result<(), NotDone> {
+        let Some(counted) = reading::read(p)? else {
+            return Ok(());
+        };
+        let one_more = if *counted.ttsi != self.ttsi {
+            self.others.count(self.closed)
+        } else if counted.kind == self.kind {
+            self.expected.count(self.closed)
+        } else {
+            return Err(Refusal::OtherKind.into());
+        };
+        one_more.ok_or(NotDone::NoRoom)
     }
-    0
-}
 
-// Whether one of the first `many` paths expects it.
-fn is_taken(ttsis: &Ttsis, many: usize, s: &[u8], at: usize) -> bool {
-    for i in 0..many {
-        if is_expected(ttsis, i, s, at) {
-            return true;
+    // Only a CV path has records. The last slot of a row is never closed: it is kept for the packets that come after
+    // the slots before it.
+    pub(crate) fn close(&mut self) -> Result<Option<Record>, NotDone> {
+        if self.closed >= ROW - 1 {
+            return Err(NotDone::NoRoom);
         }
-    }
-    false
-}
-
-fn store(ttsis: &mut Ttsis, i: usize, s: &[u8], at: usize) {
-    if i < MOST {
-        for k in 0..20 {
-            ttsis[i * 20 + k] = reading::octet(s, std::num::wrapping_add_usize(at, k));
+        self.closed += 1;
+        if self.kind == Kind::Cv {
+            Ok(self.ended_by(self.closed))
+        } else {
+            Ok(None)
         }
     }
 }
 
-fn refused(number: u8, paths: Paths) -> Added {
-    Added { number, paths }
+// By their numbers, from 0 on. It is a bare array, lent from where `main` makes it: as a field it would be moved, and
+// the usual stack has no room for two.
+pub(crate) type Paths = [Option<Path>; MOST];
+
+pub(crate) fn get(paths: &mut Paths, lsp: u8) -> Result<&mut Path, Refusal> {
+    match paths.get_mut(usize::from(lsp)) {
+        Some(Some(path)) => Ok(path),
+        _ => Err(Refusal::NoPath),
+    }
 }
 
-impl Paths {
-    pub(crate) fn has(self, lsp: usize) -> bool {
-        lsp < self.many && lsp < MOST
+pub(crate) fn add(paths: &mut Paths, kind: u8, ttsi: &Ttsi) -> Result<(), Refusal> {
+    let kind = Kind::try_from(kind)?;
+    if !reading::is_ttsi(ttsi) {
+        return Err(Refusal::Value);
     }
-
-    pub(crate) fn kind(self, lsp: usize) -> u8 {
-        if lsp < MOST { self.kinds[lsp] } else { 0 }
+    if paths.iter().flatten().any(|path| path.ttsi == *ttsi) {
+        return Err(Refusal::Taken);
     }
-
-    pub(crate) fn closed_of(self, lsp: usize) -> usize {
-        if lsp < MOST { self.closed[lsp] } else { 0 }
-    }
-
-    pub(crate) fn expects(self, lsp: usize, s: &[u8], at: usize) -> bool {
-        let ttsis = self.ttsis;
-        is_expected(&ttsis, lsp, s, at)
-    }
-
-    // With one slot more closed.
-    pub(crate) fn with_closed(mut self, lsp: usize, n: usize) -> Paths {
-        if lsp < MOST {
-            self.closed[lsp] = n;
-        }
-        self
-    }
-
-    // By an add's content: kind, TTSI, DL. The DL goes into no record, so it is not kept.
-    pub(crate) fn added(self, content: &[u8]) -> Added {
-        let kind = reading::octet(content, 0);
-        let ttsis = self.ttsis;
-        let i = self.many;
-        if kind > 6 || !reading::zeros(content, 17, 19) {
-            return refused(12, self);
-        }
-        if is_taken(&ttsis, i, content, 1) {
-            return refused(8, self);
-        }
-        if i >= MOST {
-            return refused(7, self);
-        }
-        let mut next = self;
-        let mut more = ttsis;
-        store(&mut more, i, content, 1);
-        next.ttsis = more;
-        next.kinds[i] = kind;
-        next.many = i + 1;
-        Added {
-            number: 0,
-            paths: next,
-        }
-    }
+    let free = paths
+        .iter()
+        .position(|place| place.is_none())
+        .ok_or(Refusal::Full)?;
+    paths[free] = Some(Path::new(kind, *ttsi));
+    Ok(())
 }

@@ -1,105 +1,123 @@
 // A payload, read by the paper's table of types.
+use crate::refusal::Refusal;
 
-pub(crate) const LENGTH: usize = 44;
-
-const CV: u8 = 0x01;
-
-const FDI: u8 = 0x02;
-
-const BDI: u8 = 0x03;
-
-const FFD: u8 = 0x07;
+const LENGTH: usize = 44;
 
 // Offsets.
-pub(crate) const TTSI: usize = 4;
+const DT: usize = 2;
 
-const TUNNEL: usize = 20;
+const TTSI: usize = 4;
 
 const RATE: usize = 24;
 
+const DL_END: usize = 28;
+
 const BIP16: usize = 42;
 
-// An octet; 0 past the last.
-pub(crate) fn octet(s: &[u8], i: usize) -> u8 {
-    if i < s.len() { s[i] } else { 0 }
+pub(crate) type Ttsi = [u8; 20];
+
+// A path is checked by CV packets, or by FFD packets of one rate.
+#[derive(Clone, Copy, PartialEq, Eq)]
+pub(crate) enum Kind {
+    Cv,
+    Ffd { rate: u8 },
 }
 
-// The exclusive-or of every second octet from `from` on, up to the BIP16.
-fn parity(p: &[u8], from: usize) -> u8 {
-    let mut x: u8 = 0;
-    for i in 0..BIP16 {
-        if i % 2 == from % 2 {
-            x = x ^ octet(p, i);
+// A CV or FFD packet, the two that are counted.
+#[derive(Drop)]
+pub(crate) struct Counted<'a> {
+    pub kind: Kind,
+    pub ttsi: &'a Ttsi,
+}
+
+#[derive(Clone, Copy)]
+enum Function {
+    Cv,
+    Fdi,
+    Bdi,
+    Ffd,
+}
+
+impl TryFrom<u8> for Function {
+    type Error = Refusal;
+
+    fn try_from(octet: u8) -> Result<Function, Refusal> {
+        match octet {
+            0x01 => Ok(Function::Cv),
+            0x02 => Ok(Function::Fdi),
+            0x03 => Ok(Function::Bdi),
+            0x07 => Ok(Function::Ffd),
+            _ => Err(Refusal::Function),
         }
     }
-    x
 }
 
-fn is_bip16_right(p: &[u8]) -> bool {
-    parity(p, 0) == octet(p, BIP16) && parity(p, 1) == octet(p, BIP16 + 1)
-}
+impl TryFrom<u8> for Kind {
+    type Error = Refusal;
 
-fn is_type(ty: u8) -> bool {
-    ty == CV || ty == FDI || ty == BDI || ty == FFD
-}
-
-// Whether the octets from a up to b, b left out, are zeros.
-pub(crate) fn zeros(s: &[u8], a: usize, b: usize) -> bool {
-    for i in a..b {
-        if octet(s, i) != 0 {
-            return false;
+    fn try_from(code: u8) -> Result<Kind, Refusal> {
+        match code {
+            0 => Ok(Kind::Cv),
+            rate if is_rate(rate) => Ok(Kind::Ffd { rate }),
+            _ => Err(Refusal::Value),
         }
     }
-    true
 }
 
-pub(crate) fn is_rate(code: u8) -> bool {
-    1 <= code && code <= 6
+// The exclusive-or of every second octet.
+fn parity(s: &[u8]) -> u8 {
+    s.iter().step_by(2).fold(0, |x, &octet| x ^ octet)
 }
 
-// The defect types that are not reserved, by their two octets.
-fn is_dt(high: u8, low: u8) -> bool {
-    match high {
-        1 => low == 1 || low == 2,
-        2 => 1 <= low && low <= 4 || low == 0xFF,
-        _ => false,
+fn is_bip16_right(p: &[u8; LENGTH]) -> bool {
+    p[BIP16..] == [parity(&p[..BIP16]), parity(&p[1..BIP16])]
+}
+
+fn is_zero(s: &[u8]) -> bool {
+    s.iter().all(|&octet| octet == 0)
+}
+
+// Between the LSR and the tunnel of a TTSI two octets are zeros.
+pub(crate) fn is_ttsi(ttsi: &Ttsi) -> bool {
+    is_zero(&ttsi[16..18])
+}
+
+fn is_rate(code: u8) -> bool {
+    (1..=6).contains(&code)
+}
+
+// The defect types that are not reserved.
+fn is_dt(octets: [u8; 2]) -> bool {
+    matches!(
+        u16::from_be_bytes(octets),
+        0x0101 | 0x0102 | 0x0201..=0x0204 | 0x02FF
+    )
+}
+
+// The kind, if it is one that is counted, by what each type asks of octets 2 and 3 and of those from 24 on.
+fn counted_kind(p: &[u8; LENGTH]) -> Result<Option<Kind>, Refusal> {
+    match Function::try_from(p[0])? {
+        Function::Cv if is_zero(&p[DT..TTSI]) && is_zero(&p[RATE..BIP16]) => Ok(Some(Kind::Cv)),
+        Function::Ffd
+            if is_zero(&p[DT..TTSI]) && is_rate(p[RATE]) && is_zero(&p[RATE + 1..BIP16]) => {
+            Ok(Some(Kind::Ffd { rate: p[RATE] }))
+        }
+        Function::Fdi | Function::Bdi if is_dt([p[DT], p[DT + 1]]) && is_zero(&p[DL_END..BIP16]) =>
+            Ok(None),
+        _ => Err(Refusal::Row),
     }
 }
 
-// What only one type asks of its octets 2 and 3 and of those from 24 on.
-fn is_row(p: &[u8], ty: u8) -> bool {
-    match ty {
-        CV => zeros(p, 2, 4) && zeros(p, RATE, BIP16),
-        FFD => zeros(p, 2, 4) && is_rate(octet(p, RATE)) && zeros(p, RATE + 1, BIP16),
-        _ => is_dt(octet(p, 2), octet(p, 3)) && zeros(p, RATE + 4, BIP16),
-    }
-}
-
-// 0, or the number of the refusal, in the paper's order.
-pub(crate) fn number(p: &[u8]) -> u8 {
-    if p.len() != LENGTH {
-        return 2;
-    }
+// What is counted of a payload, if anything is; else the refusal, in the paper's order.
+pub(crate) fn read(p: &[u8]) -> Result<Option<Counted<'_>>, Refusal> {
+    let p = p.as_array::<LENGTH>().ok_or(Refusal::Length)?;
     if !is_bip16_right(p) {
-        return 3;
+        return Err(Refusal::Bip16);
     }
-    let ty = octet(p, 0);
-    if !is_type(ty) {
-        return 4;
+    let kind = counted_kind(p)?;
+    let ttsi = p[TTSI..].first_chunk().unwrap();
+    if p[1] != 0 || !is_ttsi(ttsi) {
+        return Err(Refusal::Row);
     }
-    if octet(p, 1) != 0 || !zeros(p, TUNNEL, TUNNEL + 2) || !is_row(p, ty) {
-        return 5;
-    }
-    0
-}
-
-// CV or FFD, the two that are counted.
-pub(crate) fn is_counted(p: &[u8]) -> bool {
-    let ty = octet(p, 0);
-    ty == CV || ty == FFD
-}
-
-// The kind of path that such a packet is of: 0 for CV, else the rate code. A CV packet has a zero there.
-pub(crate) fn kind(p: &[u8]) -> u8 {
-    octet(p, RATE)
+    Ok(kind.map(|kind| Counted { kind, ttsi }))
 }

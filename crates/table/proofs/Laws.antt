@@ -15,8 +15,7 @@ use Rattle.payload.specs.Reading.{Answer}
 use Rattle.lsp.specs.Steps as path
 use Rattle.lsp.specs.Steps.{new_of}
 use Rattle.lsp.specs.declared.path.Lsp.{Lsp}
-use Rattle.lsp.specs.declared.path.Signalled as path-signalled
-use Rattle.lsp.specs.declared.close.Closed as path-closed
+use Rattle.lsp.specs.Outcomes as answered
 use Rattle.lsp.proofs.Refused.{receive_refused, close_refused, server_refused}
 use Rattle.table.specs.Steps.{nowhere, present, path_at, put, any_expects, add_by, add_of, receive_by, receive_of, close_by, close_of, server_by, server_of}
 use Rattle.table.specs.Laws.{Kept, Apart, Refused}
@@ -42,19 +41,19 @@ module _ (t : Table) (i : ℕ) where
   receive_same true r h n = put_back r.1 (h n)
   receive_same false r h n = refl
 
-  close_kept : (b : Bool) (c : path-closed.Closed) → Kept i t (close_by b t i c).next
+  close_kept : (b : Bool) (c : answered.Closed) → Kept i t (close_by b t i c).next
   close_kept true c = put_kept c.next
   close_kept false c = same_kept
 
-  close_same : (b : Bool) (c : path-closed.Closed) → ((c.number ≡ 0 → ⊥) → c.next ≡ path_at t i) → ((close_by b t i c).number ≡ 0 → ⊥) → (close_by b t i c).next ≡ t
+  close_same : (b : Bool) (c : answered.Closed) → ((c.number ≡ 0 → ⊥) → c.next ≡ path_at t i) → ((close_by b t i c).number ≡ 0 → ⊥) → (close_by b t i c).next ≡ t
   close_same true c h n = put_back c.next (h n)
   close_same false c h n = refl
 
-  server_kept : (b : Bool) (s : path-signalled.Signalled) → Kept i t (server_by b t i s).next
+  server_kept : (b : Bool) (s : answered.Signalled) → Kept i t (server_by b t i s).next
   server_kept true s = put_kept s.next
   server_kept false s = same_kept
 
-  server_same : (b : Bool) (s : path-signalled.Signalled) → ((s.number ≡ 0 → ⊥) → s.next ≡ path_at t i) → ((server_by b t i s).number ≡ 0 → ⊥) → (server_by b t i s).next ≡ t
+  server_same : (b : Bool) (s : answered.Signalled) → ((s.number ≡ 0 → ⊥) → s.next ≡ path_at t i) → ((server_by b t i s).number ≡ 0 → ⊥) → (server_by b t i s).next ≡ t
   server_same true s h n = put_back s.next (h n)
   server_same false s h n = refl
 

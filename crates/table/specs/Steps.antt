@@ -1,22 +1,21 @@
 -- What each call on a table answers and leaves.
 -- Assumes nothing.
-use Rattle.std.specs.Prelude.{ℕ, ◌+◌, Bool, true, false, List, [], ◌∷◌, leb, ltb, get_or, set, take, replicate}
+use Rattle.std.specs.Prelude.{ℕ, ◌+◌, Bool, true, false, List, [], ◌∷◌, ◌≡◌, leb, ltb, get_or, set, take, replicate}
 use Rattle.payload.specs.Test.{pick, both, either}
 use Rattle.payload.specs.Rates.{is_kind}
 use Rattle.payload.specs.Layout.{is_ttsi}
 use Rattle.payload.specs.Reading.{Answer, refusal}
 use Rattle.window.specs.declared.state.Defect.TheVariants.{Clear}
 use Rattle.window.specs.declared.state.Availability.TheVariants.{Available}
-use Rattle.window.specs.declared.state.Record.TheVariants.{Nothing}
+use Rattle.std.specs.Prelude.{None}
 use Rattle.lsp.specs.Steps as path
 use Rattle.lsp.specs.Steps.{new_of, same, gone, out_is}
 use Rattle.lsp.specs.declared.path.Lsp.{Lsp}
-use Rattle.lsp.specs.declared.path.Signalled as path-signalled
-use Rattle.lsp.specs.declared.close.Closed as path-closed
+use Rattle.lsp.specs.Outcomes as answered
 use Rattle.table.specs.declared.paths.Table.{Table}
-use Rattle.table.specs.declared.add.Added.{Added}
-use Rattle.table.specs.declared.calls.Closed.{Closed}
-use Rattle.table.specs.declared.calls.Signalled.{Signalled}
+use Rattle.table.specs.Outcomes.{Added}
+use Rattle.table.specs.Outcomes.{Closed}
+use Rattle.table.specs.Outcomes.{Signalled}
 
 -- ---- the paths
 
@@ -71,6 +70,13 @@ add_by true false false t l =
 unfoldable pub add_of : Table → ℕ → List ℕ → ℕ → Added
 add_of t kind ttsi dl = add_by (both (is_kind kind) (is_ttsi ttsi)) (any_expects t ttsi) (leb 64 t.count) t (new_of kind ttsi dl)
 
+-- whether a path has the number
+abbrev pub IsThere : Table → ℕ → Type 0
+IsThere t i = ltb i (present t) ≡ true
+
+abbrev pub IsNot : Table → ℕ → Type 0
+IsNot t i = ltb i (present t) ≡ false
+
 -- ---- the calls on a path: 1, then as the path answers
 
 abbrev pub receive_by : (there : Bool) → Table → ℕ → Answer × Lsp → Answer × Table
@@ -80,14 +86,14 @@ receive_by true t i r = (r.0, put t i r.1)
 unfoldable pub receive_of : Table → ℕ → List ℕ → Answer × Table
 receive_of t i p = receive_by (ltb i (present t)) t i (path.receive_of (path_at t i) p)
 
-abbrev pub close_by : (there : Bool) → Table → ℕ → path-closed.Closed → Closed
-close_by false t i c = record { number = 1; defect = Clear; out = out_is 0 0 false false; handed = Nothing; next = t }
+abbrev pub close_by : (there : Bool) → Table → ℕ → answered.Closed → Closed
+close_by false t i c = record { number = 1; defect = Clear; out = out_is 0 0 false false; handed = None; next = t }
 close_by true t i c = record { number = c.number; defect = c.defect; out = c.out; handed = c.handed; next = put t i c.next }
 
 unfoldable pub close_of : Table → ℕ → Closed
 close_of t i = close_by (ltb i (present t)) t i (path.close_of (path_at t i))
 
-abbrev pub server_by : (there : Bool) → Table → ℕ → path-signalled.Signalled → Signalled
+abbrev pub server_by : (there : Bool) → Table → ℕ → answered.Signalled → Signalled
 server_by false t i s = record { number = 1; next = t }
 server_by true t i s = record { number = s.number; next = put t i s.next }
 

@@ -1,46 +1,20 @@
 // A path more.
-ghost use Rattle.std.specs.Prelude.{◌≤◌, length, take, ◌≡◌};
-ghost use Rattle.table.specs.Steps.{expected_in, any_expects, present, add_of};
+ghost use Rattle.std.specs.Prelude.{◌≡◌};
+ghost use Rattle.std.specs.List.{list_any};
+ghost use Rattle.lsp.specs.Steps.{same};
+ghost use Rattle.table.specs.Steps.{any_expects, present, add_of};
+ghost use Rattle.table.specs.Outcomes.{added_in};
 
 use crate::paths::{MOST, Table};
 use lsp::Lsp;
 use payload::{Kind, is_ttsi};
+use refusal::Refusal;
 
-// The number of the answer, the number of the path where that is 0, and the table afterwards.
-#[derive(Clone, Copy)]
-pub struct Added {
-    pub number: u8,
-    pub lsp: u64,
-    pub next: Table,
-}
-
-fn copied(t: &[u8]) -> [u8; 20]
-    requires { length t.now ≡ 20 }
-    ensures { result ≡ t.now }
+// Whether one of the paths expects the TTSI.
+fn expected_in(lsps: &[Lsp], t: &[u8]) -> bool
+    ensures { result ≡ list_any (λ l. same t.now l.ttsi) lsps.now }
 {
-    let mut octets = [0u8; 20];
-    let mut i = 0;
-    while i < 20 {
-        octets[i] = t[i];
-        i += 1;
-    }
-    octets
-}
-
-// Whether one of the first n paths expects the TTSI.
-fn expected_in(lsps: [Lsp; 64], n: usize, t: &[u8]) -> bool
-    requires { n ≤ 64 }
-    ensures { result ≡ expected_in (take n lsps) t.now }
-{
-    let mut i = 0;
-    while i < n {
-        let l = lsps[i];
-        if l.expects(t) {
-            return true;
-        }
-        i += 1;
-    }
-    false
+    lsps.iter().any(|l| l.expects(t))
 }
 
 impl Table {
@@ -48,63 +22,38 @@ impl Table {
     pub fn present(self) -> usize
         ensures { result ≡ present self }
     {
-        let count = self.count;
-        if count < MOST {
-            return count as usize;
-        }
-        64
+        self.count.min(MOST) as usize
     }
 
     // Whether a path expects the TTSI already.
+    #[tactic(auto, using(crate::proofs::Places::expected_any))]
     fn expects(self, t: &[u8]) -> bool
         ensures { result ≡ any_expects self t.now }
     {
         let n = self.present();
-        let lsps = self.lsps;
-        expected_in(lsps, n, t)
+        expected_in(&self.lsps[..n], t)
     }
 
-    // A path of the kind, with the expected TTSI and the local DL: 12, 8, 7, or 0 and its number, the count before it.
-    pub fn add(self, kind: u8, ttsi: &[u8], dl: u32) -> Added
-        ensures { result ≡ add_of self kind ttsi.now dl }
+    // A path of the kind, with the expected TTSI and the local DL, and its number, the count before it: 12, 8, 7.
+    #[tactic(auto, unfolding(crate::specs::Steps::add_of))]
+    pub fn add(self, kind: u8, ttsi: &[u8], dl: u32) -> Result<(u64, Table), Refusal>
+        ensures { added_in self result ≡ add_of self kind ttsi.now dl }
     {
-        if !Kind::is_kind(kind) {
-            return Added {
-                number: 12,
-                lsp: 0,
-                next: self,
-            };
-        }
-        if !is_ttsi(ttsi) {
-            return Added {
-                number: 12,
-                lsp: 0,
-                next: self,
-            };
+        if !Kind::is_kind(kind) || !is_ttsi(ttsi) {
+            return Err(Refusal::Value);
         }
         if self.expects(ttsi) {
-            return Added {
-                number: 8,
-                lsp: 0,
-                next: self,
-            };
+            return Err(Refusal::Taken);
         }
-        let count = self.count;
-        if MOST <= count {
-            return Added {
-                number: 7,
-                lsp: 0,
-                next: self,
-            };
+        let number = self.count;
+        if MOST <= number {
+            return Err(Refusal::Full);
         }
-        let at = count as usize;
+        let mut own = [0; 20];
+        own.copy_from_slice(ttsi);
         let mut next = self;
-        next.lsps[at] = Lsp::new(kind, copied(ttsi), dl);
-        next.count = count + 1;
-        Added {
-            number: 0,
-            lsp: count,
-            next,
-        }
+        next.lsps[number as usize] = Lsp::new(kind, own, dl);
+        next.count = number + 1;
+        Ok((number, next))
     }
 }

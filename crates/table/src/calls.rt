@@ -1,134 +1,81 @@
-// The calls on one path of a table.
-ghost use Rattle.std.specs.Prelude.{◌≡◌};
-ghost use Rattle.payload.specs.Reading.{answer_of};
-ghost use Rattle.table.specs.Steps.{receive_of, close_of, server_of, write_row_of};
+// The calls on one path of a table: 1 where no path has the number, then as the path answers.
+ghost use Rattle.std.specs.Prelude.{◌≡◌, ◌<◌, length, MatchResult};
+ghost use Rattle.refusal.specs.declared.Refusal.TheVariants.{NoPath};
+ghost use Rattle.refusal.specs.Numbers.{number_in};
+ghost use Rattle.table.specs.Steps.{IsThere, IsNot, put, receive_of, close_of, server_of, write_row_of};
+ghost use Rattle.table.specs.Outcomes.{received_in, closed_in, signalled_in};
 
 use crate::paths::Table;
-use lsp::Out;
+use lsp::{Closed, Lsp};
 use payload::Found;
-use window::{Defect, Record};
-
-#[derive(Clone, Copy)]
-pub struct Received {
-    pub found: Found,
-    pub next: Table,
-}
-
-#[derive(Clone, Copy)]
-pub struct Closed {
-    pub number: u8,
-    pub defect: Defect,
-    pub out: Out,
-    pub handed: Record,
-    pub next: Table,
-}
-
-#[derive(Clone, Copy)]
-pub struct Signalled {
-    pub number: u8,
-    pub next: Table,
-}
+use refusal::Refusal;
 
 impl Table {
-    // A payload on a path: 1, then as the path answers.
-    pub fn receive(self, lsp: u64, p: &[u8]) -> Received
-        ensures { (answer_of result.found, result.next) ≡ receive_of self lsp p.now }
+    // Where the path of the number lies.
+    fn place(self, lsp: u64) -> Result<usize, Refusal>
+        ensures { MatchResult result (λ at. (at ≡ lsp) × IsThere self lsp) (λ r. (r ≡ NoPath) × IsNot self lsp) }
     {
         if !self.has(lsp) {
-            return Received {
-                found: Found::Refused { number: 1 },
-                next: self,
-            };
+            return Err(Refusal::NoPath);
         }
-        let at = lsp as usize;
-        let l = self.lsps[at];
-        let r = l.receive(p);
-        let found = r.found;
-        let after = r.next;
-        let mut next = self;
-        next.lsps[at] = after;
-        Received { found, next }
+        Ok(lsp as usize)
     }
 
-    // The close of a path's open slot: 1, then as the path answers.
-    pub fn close(self, lsp: u64) -> Closed
-        ensures { result ≡ close_of self lsp }
+    // With another path in the place of one.
+    fn with(self, at: usize, path: Lsp) -> Table
+        requires { at < length self.lsps }
+        ensures { result ≡ put self at path }
     {
-        if !self.has(lsp) {
-            return Closed {
-                number: 1,
-                defect: Defect::Clear,
-                out: Out {
-                    dt: 0,
-                    dl: 0,
-                    alarm: false,
-                    suppression: false,
-                },
-                handed: Record::Nothing,
-                next: self,
-            };
-        }
-        let at = lsp as usize;
-        let l = self.lsps[at];
-        let c = l.close();
-        let defect = c.defect;
-        let out = c.out;
-        let handed = c.handed;
-        let after = c.next;
         let mut next = self;
-        next.lsps[at] = after;
-        Closed {
-            number: c.number,
-            defect,
-            out,
-            handed,
-            next,
-        }
+        next.lsps[at] = path;
+        next
     }
 
-    // The server signal of a path: 1, then 12 where the value is neither 0 nor 1.
-    pub fn server(self, lsp: u64, value: u8) -> Signalled
-        ensures { result ≡ server_of self lsp value }
+    // A payload on a path.
+    #[tactic(auto, using(crate::proofs::Places::put_back), unfolding(crate::specs::Steps::receive_of))]
+    pub fn receive(self, lsp: u64, p: &[u8]) -> Result<(Found, Table), Refusal>
+        ensures { received_in self result ≡ receive_of self lsp p.now }
     {
-        if !self.has(lsp) {
-            return Signalled {
-                number: 1,
-                next: self,
-            };
-        }
-        let at = lsp as usize;
-        let l = self.lsps[at];
-        let s = l.server(value);
-        let after = s.next;
-        let mut next = self;
-        next.lsps[at] = after;
-        Signalled {
-            number: s.number,
-            next,
-        }
+        let at = self.place(lsp)?;
+        let (found, path) = self.lsps[at].receive(p)?;
+        Ok((found, self.with(at, path)))
     }
 
-    // The FDI of a path as it stands: 1, 13, 11, or 0 and the payload in the first 44 octets lent.
-    pub fn write_fdi(self, lsp: u64, buf: &mut [u8]) -> u8
-        ensures { (result, buf.new) ≡ write_row_of 0x02 self lsp buf.old }
+    // The close of a path's open slot.
+    #[tactic(auto, using(crate::proofs::Places::put_back), unfolding(crate::specs::Steps::close_of))]
+    pub fn close(self, lsp: u64) -> Result<(Closed, Table), Refusal>
+        ensures { closed_in self result ≡ close_of self lsp }
     {
-        if !self.has(lsp) {
-            return 1;
-        }
-        let at = lsp as usize;
-        let l = self.lsps[at];
-        l.write_fdi(buf)
+        let at = self.place(lsp)?;
+        let (closed, path) = self.lsps[at].close()?;
+        Ok((closed, self.with(at, path)))
+    }
+
+    // The server signal of a path: on (1) or off (0).
+    #[tactic(auto, using(crate::proofs::Places::put_back), unfolding(crate::specs::Steps::server_of))]
+    pub fn server(self, lsp: u64, value: u8) -> Result<Table, Refusal>
+        ensures { signalled_in self result ≡ server_of self lsp value }
+    {
+        let at = self.place(lsp)?;
+        let path = self.lsps[at].server(value)?;
+        Ok(self.with(at, path))
+    }
+
+    // The FDI of a path as it stands, in the first 44 octets lent. A call for each type, as a path's own.
+    #[tactic(auto, unfolding(crate::specs::Steps::write_row_of))]
+    pub fn write_fdi(self, lsp: u64, buf: &mut [u8]) -> Result<(), Refusal>
+        ensures { (number_in result, buf.new) ≡ write_row_of 0x02 self lsp buf.old }
+    {
+        let at = self.place(lsp)?;
+        self.lsps[at].write_fdi(buf)
     }
 
     // The BDI, likewise.
-    pub fn write_bdi(self, lsp: u64, buf: &mut [u8]) -> u8
-        ensures { (result, buf.new) ≡ write_row_of 0x03 self lsp buf.old }
+    #[tactic(auto, unfolding(crate::specs::Steps::write_row_of))]
+    pub fn write_bdi(self, lsp: u64, buf: &mut [u8]) -> Result<(), Refusal>
+        ensures { (number_in result, buf.new) ≡ write_row_of 0x03 self lsp buf.old }
     {
-        if !self.has(lsp) {
-            return 1;
-        }
-        let at = lsp as usize;
-        let l = self.lsps[at];
-        l.write_bdi(buf)
+        let at = self.place(lsp)?;
+        self.lsps[at].write_bdi(buf)
     }
 }

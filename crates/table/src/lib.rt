@@ -8,6 +8,4 @@ pub mod add;
 pub mod calls;
 pub mod paths;
 
-pub use add::Added;
-pub use calls::{Closed, Received, Signalled};
 pub use paths::{MOST, Table};

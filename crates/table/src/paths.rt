@@ -6,10 +6,11 @@ use lsp::Lsp;
 
 pub const MOST: u64 = 64;
 
-#[derive(Clone, Copy)]
+#[derive(Clone, Copy, Debug, PartialEq, Eq)]
 pub struct Table {
     pub count: u64,
-    // Places past the last path are read by no call.
+    // A count beside places, for the memory is fixed, and `present` has its answer to any count. Places past the last path are read
+    // by no call.
     pub lsps: [Lsp; 64],
 }
 
@@ -29,10 +30,6 @@ impl Table {
     pub(crate) fn has(self, lsp: u64) -> bool
         ensures { result ≡ ltb lsp (present self) }
     {
-        let count = self.count;
-        if count < MOST {
-            return lsp < count;
-        }
-        lsp < MOST
+        lsp < self.count.min(MOST)
     }
 }

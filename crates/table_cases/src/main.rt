@@ -2,116 +2,115 @@
 #![tactic(auto)]
 
 mod made;
-mod text;
 
 use lsp::Lsp;
-use made::Marks;
+use made::{filled, signalled, silent, ttsi};
+use std::io;
 use table::Table;
 
 // Answers of adding: the orders 12, 8, 7, on a table with as many paths as are given.
-fn adding(words: &[u8], t: Table) {
-    let fresh = made::ttsi(200);
-    let known = made::ttsi(0);
-    let short = [0u8; 19];
-    text::words(words);
-    text::number(t.add(0, &fresh, 0).number);
-    text::number(t.add(0, &known, 0).number);
-    text::number(t.add(7, &known, 0).number);
-    text::number(t.add(0, &short, 0).number);
-    text::words(b"\n");
+fn adding(rt: &impl Print, words: &str, t: Table) -> io::Result<()> {
+    let known = ttsi(0);
+    let fresh = refusal::number(t.add(0, &ttsi(200), 0));
+    let again = refusal::number(t.add(0, &known, 0));
+    let kind = refusal::number(t.add(7, &known, 0));
+    let short = refusal::number(t.add(0, &[0; 19], 0));
+    println!(rt; "{words}: {fresh} {again} {kind} {short}")
 }
 
 // Answers of the calls on a number.
-fn calling(words: &[u8], t: Table, lsp: u64) {
-    let mut buf = [0xAAu8; 44];
-    text::words(words);
-    let received = t.receive(lsp, b"");
-    let found = received.found;
-    text::number(found.number());
-    text::number(t.close(lsp).number);
-    text::number(t.server(lsp, 2).number);
-    text::number(t.write_fdi(lsp, &mut buf));
-    text::number(t.write_bdi(lsp, &mut buf));
-    text::words(b"\n");
+fn calling(rt: &impl Print, words: &str, t: Table, lsp: u64) -> io::Result<()> {
+    let mut buf = [0xAA; 44];
+    let received = refusal::number(t.receive(lsp, b""));
+    let closed = refusal::number(t.close(lsp));
+    let signalled = refusal::number(t.server(lsp, 2));
+    let fdi = refusal::number(t.write_fdi(lsp, &mut buf));
+    let bdi = refusal::number(t.write_bdi(lsp, &mut buf));
+    println!(rt; "{words}: {received} {closed} {signalled} {fdi} {bdi}")
 }
 
-// Three silent closes of a path: LOCV stands.
-fn silent(t: Table, lsp: u64) -> Table {
-    t.close(lsp).next.close(lsp).next.close(lsp).next
-}
-
-fn writing(t: Table) {
+fn writing(rt: &impl Print, t: Table) -> io::Result<()> {
     let down = silent(t, 5);
-    let mut few = [0xAAu8; 43];
-    let mut buf = [0xAAu8; 50];
-    text::words(b"path 5 after three silent closes, FDI into 43 octets, into 50, BDI into 50:");
-    text::number(down.write_fdi(5, &mut few));
-    text::number(down.write_fdi(5, &mut buf));
-    text::number(down.write_bdi(5, &mut buf));
-    text::words(b"\n");
+    let mut few = [0xAA; 43];
+    let mut buf = [0xAA; 50];
+    let short = refusal::number(down.write_fdi(5, &mut few));
+    let fdi = refusal::number(down.write_fdi(5, &mut buf));
+    let bdi = refusal::number(down.write_bdi(5, &mut buf));
+    println!(rt;
+        "path 5 after three silent closes, FDI into 43 octets, into 50, BDI into 50: {short} {fdi} {bdi}"
+    )
 }
 
-fn marks(words: &[u8], m: Marks) {
-    text::words(words);
-    text::number(m.server);
-    text::number(m.closed);
-    text::words(b"\n");
+// How many paths have their server signal on, and how many a closed slot.
+fn marks(rt: &impl Print, words: &str, t: Table) -> io::Result<()> {
+    let server = t.lsps.iter().filter(|l| l.server).count();
+    let closed = t.lsps.iter().filter(|l| 0 < l.state.closed).count();
+    println!(rt; "{words}: {server} {closed}")
 }
 
-fn main() {
-    let none = Table::empty();
-    let full = made::filled(64);
-    let one = made::filled(1);
-    text::words(b"paths added one by one, added with the number that is due:");
-    text::number(made::numbered(64));
-    text::words(b"\n");
+fn adds(rt: &impl Print, one: Table, full: Table) -> io::Result<()> {
     adding(
-        b"no path, a new TTSI, one that path 0 has elsewhere, kind 7 with it, 19 octets of it:",
-        none,
-    );
+        rt,
+        "no path, a new TTSI, one that path 0 has elsewhere, kind 7 with it, 19 octets of it",
+        Table::empty(),
+    )?;
     adding(
-        b"one path, a new TTSI, its own, kind 7 with its own, 19 octets of its own:",
+        rt,
+        "one path, a new TTSI, its own, kind 7 with its own, 19 octets of its own",
         one,
-    );
+    )?;
     adding(
-        b"64 paths, a new TTSI, path 0's, kind 7 with it, 19 octets of it:",
+        rt,
+        "64 paths, a new TTSI, path 0's, kind 7 with it, 19 octets of it",
         full,
-    );
+    )
+}
+
+fn calls(rt: &impl Print, one: Table, full: Table) -> io::Result<()> {
     calling(
-        b"no path, calls on 0: receive nothing, close, server 2, FDI, BDI:",
-        none,
+        rt,
+        "no path, calls on 0: receive nothing, close, server 2, FDI, BDI",
+        Table::empty(),
         0,
-    );
-    calling(b"one path, calls on 0:", one, 0);
-    calling(b"one path, calls on 1:", one, 1);
-    calling(b"64 paths, calls on 63:", full, 63);
-    calling(b"64 paths, calls on 64:", full, 64);
+    )?;
+    calling(rt, "one path, calls on 0", one, 0)?;
+    calling(rt, "one path, calls on 1", one, 1)?;
+    calling(rt, "64 paths, calls on 63", full, 63)?;
+    calling(rt, "64 paths, calls on 64", full, 64)?;
     calling(
-        b"64 paths, calls on 18446744073709551615:",
+        rt,
+        "64 paths, calls on 18446744073709551615",
         full,
-        18446744073709551615,
-    );
+        u64::MAX,
+    )
+}
+
+// A count that no calls give.
+fn many(rt: &impl Print) -> io::Result<()> {
     let many = Table {
         count: 900,
         lsps: [Lsp::new(0, [0; 20], 0); 64],
     };
     adding(
-        b"a count of 900, a new TTSI, another, kind 7, 19 octets:",
+        rt,
+        "a count of 900, a new TTSI, another, kind 7, 19 octets",
         many,
-    );
-    calling(b"a count of 900, calls on 63:", many, 63);
-    calling(b"a count of 900, calls on 64:", many, 64);
-    marks(
-        b"64 paths, signals on, paths with a closed slot:",
-        made::marked(full),
-    );
-    marks(
-        b"after the signal of path 5:",
-        made::marked(full.server(5, 1).next),
-    );
-    marks(
-        b"after three closes of path 5:",
-        made::marked(silent(full, 5)),
-    );
-    writing(full);
+    )?;
+    calling(rt, "a count of 900, calls on 63", many, 63)?;
+    calling(rt, "a count of 900, calls on 64", many, 64)
+}
+
+fn main(rt: HostRuntime) -> io::Result<()> {
+    let rt = &rt;
+    let one = filled(1);
+    let full = filled(64);
+    let numbered = made::numbered(64);
+    println!(rt; "paths added one by one, added with the number that is due: {numbered}")?;
+    adds(rt, one, full)?;
+    calls(rt, one, full)?;
+    many(rt)?;
+    marks(rt, "64 paths, signals on, paths with a closed slot", full)?;
+    marks(rt, "after the signal of path 5", signalled(full, 5))?;
+    marks(rt, "after three closes of path 5", silent(full, 5))?;
+    writing(rt, full)
 }

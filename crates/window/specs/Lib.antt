@@ -1,4 +1,5 @@
 pub mod Sums
+pub mod Outcomes
 pub mod View
 pub mod Steady
 pub mod Promises

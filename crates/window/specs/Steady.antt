@@ -1,11 +1,10 @@
 -- A close that only moves the rows on. `proofs/Steady.antt` proves the law.
 -- Assumes nothing.
-use Rattle.std.specs.Prelude.{ℕ, suc, Bool, true, false, ◌&&◌, not, cond, ◌≡◌, eqb, leb}
+use Rattle.std.specs.Prelude.{ℕ, suc, Bool, true, false, ◌&&◌, not, cond, ◌≡◌, eqb, leb, None}
 use Rattle.rules.specs.Machine.{last_of, shift}
 use Rattle.window.specs.View.{full, standing, turned_of}
 use Rattle.window.specs.declared.state.Availability.{Availability}
 use Rattle.window.specs.declared.state.Availability.TheVariants.{Available, Unavailable}
-use Rattle.window.specs.declared.state.Record.TheVariants.{Nothing}
 use Rattle.window.specs.declared.state.State.{State}
 
 abbrev pub is_available : Availability → Bool
@@ -36,4 +35,4 @@ moved_on s = cond (full s) s (slot_on s)
 
 -- such a close moves the rows on, on any path, and hands nothing out
 pub record Steady : Type 0 where
-  pub close : (cv : Bool) (s : State) → is_steady s ≡ true → turned_of cv s ≡ record { number = 0; state = moved_on s; handed = Nothing }
+  pub close : (cv : Bool) (s : State) → is_steady s ≡ true → turned_of cv s ≡ record { number = 0; state = moved_on s; handed = None }

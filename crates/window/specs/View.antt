@@ -1,6 +1,6 @@
 -- Which state of the machine of `rules` the code's struct stands for, and back; the steps of the code are the machine's.
 -- Assumes nothing.
-use Rattle.std.specs.Prelude.{ℕ, Bool, true, false, cond, leb}
+use Rattle.std.specs.Prelude.{ℕ, Bool, true, false, cond, leb, Option, Some, None}
 use Rattle.rules.specs.Rules as rules
 use Rattle.rules.specs.Machine as machine
 use Rattle.window.specs.declared.state.Defect.{Defect}
@@ -8,10 +8,9 @@ use Rattle.window.specs.declared.state.Defect.TheVariants.{Clear, Mismatch, Mism
 use Rattle.window.specs.declared.state.Availability.{Availability}
 use Rattle.window.specs.declared.state.Availability.TheVariants.{Available, Unavailable}
 use Rattle.window.specs.declared.state.Record.{Record}
-use Rattle.window.specs.declared.state.Record.TheVariants.{Nothing, U, B}
+use Rattle.window.specs.declared.state.Record.TheVariants.{U, B}
 use Rattle.window.specs.declared.state.State.{State}
-use Rattle.window.specs.declared.close.Turn.{Turn}
-use Rattle.window.specs.declared.close.Turned.{Turned}
+use Rattle.window.specs.Outcomes.{Turned}
 
 -- ---- each enum and its cases
 
@@ -44,15 +43,15 @@ abbrev pub availability_out : machine.Availability → Availability
 availability_out machine.available = Available
 availability_out (machine.unavailable since) = Unavailable since
 
-abbrev pub record_out : rules.Record → Record
-record_out rules.nothing = Nothing
-record_out (rules.U from until) = U from until
-record_out (rules.B from until) = B from until
+abbrev pub record_out : rules.Record → Option Record
+record_out rules.nothing = None
+record_out (rules.U from until) = Some (U from until)
+record_out (rules.B from until) = Some (B from until)
 
-abbrev pub record_in : Record → rules.Record
-record_in Nothing = rules.nothing
-record_in (U from until) = rules.U from until
-record_in (B from until) = rules.B from until
+abbrev pub record_in : Option Record → rules.Record
+record_in None = rules.nothing
+record_in (Some (U from until)) = rules.U from until
+record_in (Some (B from until)) = rules.B from until
 
 -- ---- the paper's number and values for each case
 
@@ -70,10 +69,10 @@ unavailable_of Available = (0, 0)
 unavailable_of (Unavailable since) = (1, since)
 
 -- record 0 none, 1 U, 2 B, and its from and until
-abbrev pub record_of : Record → ℕ × (ℕ × ℕ)
-record_of Nothing = (0, (0, 0))
-record_of (U from until) = (1, (from, until))
-record_of (B from until) = (2, (from, until))
+abbrev pub record_of : Option Record → ℕ × (ℕ × ℕ)
+record_of None = (0, (0, 0))
+record_of (Some (U from until)) = (1, (from, until))
+record_of (Some (B from until)) = (2, (from, until))
 
 -- ---- the state, and what a close makes of it
 
@@ -97,8 +96,8 @@ state_out s = record {
   availability = availability_out s.availability;
 }
 
-abbrev pub turn_out : machine.Turn → Turn
-turn_out t = record { availability = availability_out t.next; handed = record_out t.handed }
+abbrev pub turn_out : machine.Turn → Availability × Option Record
+turn_out t = (availability_out t.next, record_out t.handed)
 
 -- the machine's turn on a path whose availability is judged, and on one whose isn't
 abbrev pub turn_for : Bool → ℕ → machine.State → machine.Defect → ℕ → Bool → machine.Turn
@@ -115,5 +114,5 @@ full s = leb 1000000000000 s.closed
 
 abbrev pub turned_of : Bool → State → Turned
 turned_of cv s =
-    cond (full s) (record { number = 9; state = s; handed = Nothing })
+    cond (full s) (record { number = 9; state = s; handed = None })
     (record { number = 0; state = state_out (machine.close cv (view s)); handed = record_out (machine.handed_out cv (view s)) })

@@ -1,38 +1,21 @@
 // The close of a slot.
-ghost use Rattle.std.specs.Prelude.{◌≡◌, Bool, ℕ, ◌-◌};
+ghost use Rattle.std.specs.Prelude.{◌≡◌, Bool, ℕ, [], ◌∷◌};
 ghost use Rattle.rules.specs.Machine as machine;
 ghost use Rattle.rules.specs.Machine.{available, unavailable, shift, verdict, defect_after, stood_after, calm, turn};
+ghost use Rattle.window.specs.Sums.{sums_of};
 ghost use Rattle.window.specs.View.{defect_in, defect_out, view, turn_out, turn_for, turned_of};
+ghost use Rattle.window.specs.Outcomes.{turned_in};
 ghost use Rattle.window.specs.Steady.{meets_exit, is_steady, moved_on};
 
 use crate::state::{Availability, Defect, LIMIT, Record, State, one_more};
-use crate::sums::sum_last;
+use crate::sums::{Sums, sum_last};
+use refusal::Refusal;
 
-// What a close answers: its number, the state after it, and the record that it hands out.
-#[derive(Clone, Copy)]
-pub struct Turned {
-    pub number: u8,
-    pub state: State,
-    pub handed: Record,
-}
-
-#[derive(Clone, Copy)]
-pub(crate) struct Turn {
-    pub availability: Availability,
-    pub handed: Record,
-}
-
-// The difference, or 0 where there is none.
-fn less(a: u64, b: u64) -> u64
-    ensures { result ≡ a - b }
-{
-    if a < b {
-        return 0;
-    }
-    a - b
-}
+// The availability after a close, and the record that it hands out.
+type Turn = (Availability, Option<Record>);
 
 // The row one slot on: the oldest count goes, and the open slot has none.
+// Written out: by `copy_within` a close takes twice as long, by `copy_from_slice` three times.
 fn shifted(row: [u8; 11]) -> [u8; 11]
     ensures { result ≡ shift row }
 {
@@ -44,57 +27,40 @@ fn shifted(row: [u8; 11]) -> [u8; 11]
 // The first slot whose close is judged.
 const FIRST: u64 = 3;
 
-// Of the expected packets of three slots, how many let a defect end, and how many neither begin nor end one.
-const BACK: u16 = 2;
-
-const LEFT: u16 = 1;
-
 // The defect after the close of slot n, by the sums over three slots.
-fn judged(n: u64, e: u16, u: u16, defect: Defect) -> Defect
-    ensures { result ≡ defect_out (defect_after (verdict n e u) (defect_in defect)) }
+#[tactic(auto, unfolding(rules::specs::Machine::verdict, rules::specs::Machine::judge))]
+fn judged(n: u64, three: Sums, defect: Defect) -> Defect
+    ensures { result ≡ defect_out (defect_after (verdict n three.e three.u) (defect_in defect)) }
 {
     if n < FIRST {
         return defect;
     }
-    if 1 <= u {
-        if 1 <= e {
-            return Defect::Mismerge;
-        }
-        return Defect::Mismatch;
+    match (three.u, three.e) {
+        (0, 0) => Defect::Locv,
+        (0, 1) => defect,
+        (0, 2..=4) => Defect::Clear,
+        (0, _) => Defect::Excess,
+        (_, 0) => Defect::Mismatch,
+        _ => Defect::Mismerge,
     }
-    if 5 <= e {
-        return Defect::Excess;
-    }
-    if BACK <= e {
-        return Defect::Clear;
-    }
-    if e == LEFT {
-        return defect;
-    }
-    Defect::Locv
 }
 
 // Whether the sums over three slots let a defect end.
-fn meets_exit(e: u16, u: u16) -> bool
-    ensures { result ≡ meets_exit e u }
+fn meets_exit(three: Sums) -> bool
+    ensures { result ≡ meets_exit three.e three.u }
 {
-    if 0 < u {
-        return false;
-    }
-    if e < 2 {
-        return false;
-    }
-    e <= 4
+    three.u == 0 && 2 <= three.e && three.e <= 4
 }
 
 // How many closes the defect has stood, one more than before.
 fn stood_after(defect: Defect, stood: u8) -> u8
     ensures { result ≡ stood_after 1 (defect_in defect) stood }
 {
-    if !defect.stands() {
-        return 0;
+    if defect.stands() {
+        one_more(11, stood)
+    } else {
+        0
     }
-    one_more(11, stood)
 }
 
 // Of the expected packets of ten slots, the least and the most that are calm.
@@ -103,74 +69,50 @@ const LEAST: u16 = 9;
 const MOST: u16 = 11;
 
 // Whether the sums over ten slots let an unavailability end.
-fn is_calm(e: u16, u: u16) -> bool
-    ensures { result ≡ calm 1 e u }
+#[tactic(auto, unfolding(rules::specs::Machine::calm))]
+fn is_calm(ten: Sums) -> bool
+    ensures { result ≡ calm 1 ten.e ten.u }
 {
-    if e < LEAST {
-        return false;
-    }
-    if MOST < e {
-        return false;
-    }
-    u == 0
+    LEAST <= ten.e && ten.e <= MOST && ten.u == 0
 }
 
 // An unavailable path at the close of slot n: its outage ends where no defect stands and the last ten slots are calm.
+#[tactic(auto, unfolding(rules::specs::Machine::turn))]
 fn turn_unavailable(n: u64, since: u64, after: Defect, calm: bool) -> Turn
-    ensures { (d : machine.Defect) (t t' : ℕ) → result ≡ turn_out (turn 1 n (unavailable since) d t (defect_in after) t' calm) }
+    ensures { (d : machine.Defect) (t t' : ℕ)
+        → result ≡ turn_out (turn 1 n (unavailable since) d t (defect_in after) t' calm) }
 {
-    if after.stands() {
-        return Turn {
-            availability: Availability::Unavailable { since },
-            handed: Record::Nothing,
-        };
+    if after.stands() || !calm {
+        return (Availability::Unavailable { since }, None);
     }
-    if !calm {
-        return Turn {
-            availability: Availability::Unavailable { since },
-            handed: Record::Nothing,
-        };
-    }
-    Turn {
-        availability: Availability::Available,
-        handed: Record::U {
-            from: since,
-            until: less(n, 9),
-        },
-    }
+    let until = n.saturating_sub(9);
+    (
+        Availability::Available,
+        Some(Record::U { from: since, until }),
+    )
 }
 
 // The close at which a defect that stands makes its path unavailable.
 const STOOD: u8 = 11;
 
-// An available path at the close of slot n: a defect that has stood eleven closes makes it unavailable, one that ends before is a break.
+// An available path at the close of slot n: a defect that has stood eleven closes makes it unavailable, one that
+// ends before is a break.
+#[tactic(auto, unfolding(rules::specs::Machine::turn, rules::specs::Machine::long_enough))]
 fn turn_available(n: u64, before: Defect, stood: u8, after: Defect, stands: u8) -> Turn
-    ensures { (b : Bool) → result ≡ turn_out (turn 1 n available (defect_in before) stood (defect_in after) stands b) }
+    ensures { (b : Bool)
+        → result ≡ turn_out (turn 1 n available (defect_in before) stood (defect_in after) stands b) }
 {
-    if after.stands() {
-        if stands == STOOD {
-            return Turn {
-                availability: Availability::Unavailable { since: less(n, 12) },
-                handed: Record::Nothing,
-            };
+    match (before.stands(), after.stands()) {
+        (_, true) if stands == STOOD => {
+            let since = n.saturating_sub(12);
+            (Availability::Unavailable { since }, None)
         }
-        return Turn {
-            availability: Availability::Available,
-            handed: Record::Nothing,
-        };
-    }
-    if !before.stands() {
-        return Turn {
-            availability: Availability::Available,
-            handed: Record::Nothing,
-        };
-    }
-    Turn {
-        availability: Availability::Available,
-        handed: Record::B {
-            from: less(less(n, stood as u64), 2),
-            until: less(n, 2),
-        },
+        (true, false) => {
+            let from = n.saturating_sub(u64::from(stood)).saturating_sub(2);
+            let until = n.saturating_sub(2);
+            (Availability::Available, Some(Record::B { from, until }))
+        }
+        _ => (Availability::Available, None),
     }
 }
 
@@ -178,112 +120,75 @@ fn turn_available(n: u64, before: Defect, stood: u8, after: Defect, stands: u8) 
 fn turn_for(cv: bool, n: u64, s: State, after: Defect, stands: u8, calm: bool) -> Turn
     ensures { result ≡ turn_out (turn_for cv n (view s) (defect_in after) stands calm) }
 {
-    if !cv {
-        return Turn {
-            availability: Availability::Available,
-            handed: Record::Nothing,
-        };
-    }
-    let availability = s.availability;
-    let before = s.defect;
-    match availability {
-        Availability::Available => turn_available(n, before, s.stood, after, stands),
+    match s.availability {
+        _ if !cv => (Availability::Available, None),
+        Availability::Available => turn_available(n, s.defect, s.stood, after, stands),
         Availability::Unavailable { since } => turn_unavailable(n, since, after, calm),
     }
 }
 
 impl State {
-    // Whether the close of the open slot only moves the rows on: an available path with no defect, whose last three slots meet the exit.
+    // The sums over the last k slots.
+    fn sums_of_last(self, k: usize) -> Sums
+        ensures { result ≡ sums_of (self.e ∷ self.u ∷ []) k }
+    {
+        let State { e, u, .. } = self;
+        sum_last([e, u], k)
+    }
+
+    // Whether the close of the open slot only moves the rows on: an available path with no defect, whose last three
+    // slots meet the exit.
     pub fn is_steady(self) -> bool
         ensures { result ≡ is_steady self }
     {
-        let closed = self.closed;
-        if closed < 2 {
-            return false;
-        }
-        if LIMIT <= closed {
-            return false;
-        }
-        let e = self.e;
-        let u = self.u;
-        let three = sum_last([e, u], 3);
-        if !meets_exit(three.e, three.u) {
-            return false;
-        }
-        if self.stood != 0 {
-            return false;
-        }
-        let defect = self.defect;
-        if defect.stands() {
-            return false;
-        }
-        let availability = self.availability;
-        match availability {
-            Availability::Available => true,
-            Availability::Unavailable { since: _ } => false,
-        }
+        2 <= self.closed
+            && self.closed < LIMIT
+            && meets_exit(self.sums_of_last(3))
+            && self.stood == 0
+            && !self.defect.stands()
+            && self.availability == Availability::Available
     }
 
     // One slot on, all else as it was; at the limit nothing moves.
     pub fn moved_on(self) -> State
         ensures { result ≡ moved_on self }
     {
-        let closed = self.closed;
-        if LIMIT <= closed {
+        if LIMIT <= self.closed {
             return self;
         }
-        let e = self.e;
-        let u = self.u;
-        let next = closed + 1;
-        let next_e = shifted(e);
-        let next_u = shifted(u);
-        let defect = self.defect;
-        let availability = self.availability;
         State {
-            closed: next,
-            e: next_e,
-            u: next_u,
-            defect,
-            stood: self.stood,
-            availability,
+            closed: self.closed + 1,
+            e: shifted(self.e),
+            u: shifted(self.u),
+            ..self
         }
     }
 
-    // The close of the open slot, on a CV path or on one whose availability isn't judged: 0, or 9 at the limit, where nothing changes.
-    pub fn close(self, cv: bool) -> Turned
-        ensures { result ≡ turned_of cv self }
+    // The close of the open slot, on a CV path or on one whose availability isn't judged; refused at the limit.
+    #[tactic(auto, using(crate::proofs::Views::in_out))]
+    pub fn close(self, cv: bool) -> Result<(State, Option<Record>), Refusal>
+        ensures { turned_in self result ≡ turned_of cv self }
     {
-        let closed = self.closed;
-        if LIMIT <= closed {
-            return Turned {
-                number: 9,
-                state: self,
-                handed: Record::Nothing,
-            };
+        if LIMIT <= self.closed {
+            return Err(Refusal::Limit);
         }
-        let n = closed + 1;
-        let e = self.e;
-        let u = self.u;
-        let three = sum_last([e, u], 3);
-        let ten = sum_last([e, u], 10);
-        let before = self.defect;
-        let defect = judged(n, three.e, three.u, before);
+        let next = self.moved_on();
+        let defect = judged(next.closed, self.sums_of_last(3), self.defect);
         let stood = stood_after(defect, self.stood);
-        let turn = turn_for(cv, n, self, defect, stood, is_calm(ten.e, ten.u));
-        let availability = turn.availability;
-        let handed = turn.handed;
+        let (availability, handed) = turn_for(
+            cv,
+            next.closed,
+            self,
+            defect,
+            stood,
+            is_calm(self.sums_of_last(10)),
+        );
         let state = State {
-            closed: n,
-            e: shifted(e),
-            u: shifted(u),
             defect,
             stood,
             availability,
+            ..next
         };
-        Turned {
-            number: 0,
-            state,
-            handed,
-        }
+        Ok((state, handed))
     }
 }

@@ -8,6 +8,5 @@ pub mod close;
 pub mod state;
 pub mod sums;
 
-pub use close::Turned;
 pub use state::{Availability, Defect, LIMIT, Record, State};
 pub use sums::{Sums, sum_last};

@@ -6,34 +6,34 @@ ghost use Rattle.rules.specs.Machine.{fresh, receive, count_up};
 // No more slots than these are closed.
 pub const LIMIT: u64 = 1000000000000;
 
-// The defect that stands, by its kind.
-#[derive(Clone, Copy)]
+// The defect that stands, with its kind's code. Not an Option of the kind: the paper gives no defect a code too.
+#[derive(Clone, Copy, Debug, PartialEq, Eq)]
 pub enum Defect {
-    Clear,
-    Mismatch,
-    Mismerge,
-    Locv,
-    Excess,
+    Clear = 0,
+    Mismatch = 0x0202,
+    Mismerge = 0x0203,
+    Locv = 0x0201,
+    Excess = 0x0204,
 }
 
-#[derive(Clone, Copy)]
+// Not an Option of the since-slot: its None would have to say "available", which the paper names.
+#[derive(Clone, Copy, Debug, PartialEq, Eq)]
 pub enum Availability {
     Available,
     Unavailable { since: u64 },
 }
 
-// What a close hands out: the first slot out, and the first no longer out.
-#[derive(Clone, Copy)]
+// What a close hands out, of an unavailability or of a break: the first slot out, and the first no longer out.
+#[derive(Clone, Copy, Debug, PartialEq, Eq)]
 pub enum Record {
-    Nothing,
     U { from: u64, until: u64 },
     B { from: u64, until: u64 },
 }
 
-#[derive(Clone, Copy)]
+#[derive(Clone, Copy, Debug, PartialEq, Eq)]
 pub struct State {
     pub closed: u64,
-    // Counts of the last ten slots and the open one, oldest first: at most 12, and at most 1.
+    // Counts of the last ten slots and the open one, oldest first: at most 12, and at most 1. `view` reads two rows.
     pub e: [u8; 11],
     pub u: [u8; 11],
     pub defect: Defect,
@@ -46,26 +46,14 @@ impl Defect {
     pub fn stands(self) -> bool
         ensures { result ≡ standing self }
     {
-        match self {
-            Defect::Clear => false,
-            Defect::Mismatch => true,
-            Defect::Mismerge => true,
-            Defect::Locv => true,
-            Defect::Excess => true,
-        }
+        self != Defect::Clear
     }
 
     // The kind's code; 0 where no defect stands.
     pub fn code(self) -> u16
         ensures { result ≡ code_of self }
     {
-        match self {
-            Defect::Clear => 0,
-            Defect::Locv => 0x0201,
-            Defect::Mismatch => 0x0202,
-            Defect::Mismerge => 0x0203,
-            Defect::Excess => 0x0204,
-        }
+        self as u16
     }
 }
 
@@ -73,10 +61,7 @@ impl Defect {
 pub(crate) fn one_more(cut: u8, x: u8) -> u8
     ensures { result ≡ min cut (x + 1) }
 {
-    if x < cut {
-        return x + 1;
-    }
-    cut
+    x.saturating_add(1).min(cut)
 }
 
 // One packet more in the open slot of a row.
@@ -107,29 +92,16 @@ impl State {
     pub fn receive(self, expected: bool) -> State
         ensures { result ≡ state_out (receive (packet_of expected) (view self)) }
     {
-        let e = self.e;
-        let u = self.u;
-        let defect = self.defect;
-        let availability = self.availability;
         if expected {
-            let more = count_up(12, e);
-            return State {
-                closed: self.closed,
-                e: more,
-                u,
-                defect,
-                stood: self.stood,
-                availability,
-            };
-        }
-        let more = count_up(1, u);
-        State {
-            closed: self.closed,
-            e,
-            u: more,
-            defect,
-            stood: self.stood,
-            availability,
+            State {
+                e: count_up(12, self.e),
+                ..self
+            }
+        } else {
+            State {
+                u: count_up(1, self.u),
+                ..self
+            }
         }
     }
 }

@@ -1,21 +1,19 @@
--- `events::steps::step` meets its contract. Assumes nothing.
-use borrow.Author.Tests.{eq-eqb, ne_eqb}
-use mathlib.Core.Path.{refl, ap, ◌∙◌}
+-- `events::steps::step` meets its contract: a path's own packet is counted. Assumes nothing.
+use mathlib.Core.Bool.{true}
+use mathlib.Core.Path.{◌≡◌, sym, ap, ◌∙◌}
 use native.Mathlib.Omega.{arith}
-use Rattle.events.proofs.Ways.{stepped, behind_four}
-use mathlib.Core.List.{List}
-use Prim.Native.Nat.{ℕ}
-use Rattle.events.specs.Paths.{received}
+use Prim.Native.Nat.{◌-◌}
+use lib.ListN.{length, take, drop, length-drop}
+use lib.Seq.{take_all}
+use Rattle.events.specs.Own.{own_of, is_own}
+use Rattle.events.specs.Outcomes.{Own}
+use Rattle.events.proofs.Told.{counts_step}
 use Rattle.events.proofs.steps.step.Goals as goal
 
-pub returns-then-field-eq-PACKET : goal.returns-then-field-eq-PACKET
-returns-then-field-eq-PACKET c = let a = c.args in c.received.ensures ∙ ap (λ (p : List ℕ). received a.l p) (behind_four a.field.now) ∙ stepped a.l a.field.now (eq-eqb _ 0x12 c.if-field-eq-PACKET.true) refl
-
-pub returns-then-field-eq-CLOSE : goal.returns-then-field-eq-CLOSE
-returns-then-field-eq-CLOSE c = c.closed.ensures ∙ stepped c.args.l c.args.field.now (ne_eqb _ 0x12 c.if-field-eq-PACKET.false) (eq-eqb _ 0x13 c.if-field-eq-CLOSE.true)
-
-pub bounds-field-4 : goal.bounds-field-4
-bounds-field-4 c = omega (arith, c.requires.1 c.if-field-eq-PACKET.false c.if-field-eq-CLOSE.false)
-
-pub returns : goal.returns
-returns c = c.signalled.ensures ∙ stepped c.args.l c.args.field.now (ne_eqb _ 0x12 c.if-field-eq-PACKET.false) (ne_eqb _ 0x13 c.if-field-eq-CLOSE.false)
+pub returns-in-18 : goal.returns-in-18
+returns-in-18 c =
+    let l = c.args.l.now in
+    let f = c.args.field.now in
+    let behind : take (length f - 4) (drop 4 f) ≡ drop 4 f = take_all (length f - 4) (drop 4 f) (simp length-drop (omega arith)) in
+    let own : is_own (own_of l) (drop 4 f) ≡ true = ap (λ (o : Own). is_own o (drop 4 f)) (sym c.requires.owned) ∙ (rw behind at (sym c.is_own.ensures)) ∙ c.if-is_own.true in
+    rw c.receive-l.ensures (sym (counts_step l f c.in-18.is own))

@@ -1,57 +1,30 @@
 use mathlib.Core.Bool.{true}
-use mathlib.Core.List.{List}
-use mathlib.Core.Path.{◌≡◌, refl, sym, ap, ◌∙◌}
-use Prim.Native.Nat.{ℕ, ◌+◌, ◌*◌, ◌-◌}
-use native.Mathlib.Omega.{arith}
-use lib.ListN.{take, drop, length-set}
-use Rattle.image.proofs.Marked.{mark_lt, unmarked, marked}
-use Rattle.image.proofs.Seen.{ttsi_found}
-use Rattle.image.proofs.Turns.{cell, fields_start, no_field, known_ttsi, goes_on, fields_end}
-use Rattle.image.specs.Image.{absent, ttsi_at, ttsis_of, mark_of}
+use mathlib.Core.List.{[]}
+use mathlib.Core.Path.{◌≡◌, sym, ◌∙◌}
+use lib.ListN.{get_or, length-set}
+use Rattle.field.specs.Field.{ttsi_in}
+use Rattle.image.specs.Image.{absent}
+use Rattle.image.proofs.Chunks.{before, before_next, seen_twice, not_seen, goes_on}
+use Rattle.image.proofs.Marked.{unmarked, marked}
 use Rattle.image.proofs.fields.are_fields.Goals as goal
-use Rattle.image.proofs.fields.are_fields.Goals.{then-marks-m+else-not-is_new, else-marks-m}
+use Rattle.image.proofs.fields.are_fields.Goals.{else-marks-m-via-then-marks-m+else-is_seen, else-marks-m-via-else-marks-m}
 
-abbrev found : List ℕ → ℕ → List ℕ
-found s i = take (79 * i + 4 + 20 - (79 * i + 4)) (drop (79 * i + 4) s)
-
-pub loop-i-init : goal.loop-i-init
-loop-i-init c = (omega arith, refl, λ j h. absurd (omega arith), fields_start c.args.s.now c.args.n)
-
-pub returns-then-not-is_field : goal.returns-then-not-is_field
-returns-then-not-is_field c =
-    let loop = c.loop-i in
-    no_field c.args.s.now c.args.n loop.i loop.invariant.3 (omega arith)
-    ((rw cell at (sym c.is_field.ensures)) ∙ c.if-not-is_field.true)
-
-pub bounds-marks-m : goal.bounds-marks-m
-bounds-marks-m c = rw c.mark-m.ensures (mark_lt (found c.args.s.now c.loop-i.i))
-
-pub returns-then-not-is_new : goal.returns-then-not-is_new
-returns-then-not-is_new c =
-    let loop = c.loop-i in
-    known_ttsi c.args.s.now c.args.n loop.i loop.invariant.3 (omega arith) (ttsi_at loop.i c.args.s.now) refl
-    (sym c.is_new.ensures ∙ c.if-not-is_new.true)
-
-pub bounds-marks-m-in-loop-i : goal.bounds-marks-m-in-loop-i
-bounds-marks-m-in-loop-i c = rw c.mark-m.ensures (mark_lt (found c.args.s.now c.loop-i.i))
+pub returns-then-is_seen : goal.returns-then-is_seen
+returns-then-is_seen c =
+    seen_twice c.args.fields.now c.loop-i.i c.loop-i-test.true c.loop-i.invariant.2 _ c.ttsi.ensures (sym c.is_seen.ensures ∙ c.if-is_seen.true)
 
 pub loop-i-preserved : goal.loop-i-preserved
 loop-i-preserved c =
+    let fs = c.args.fields.now in
     let loop = c.loop-i in
-    let s = c.args.s.now in
-    let m : c.mark-m.result ≡ mark_of (ttsi_at loop.i s) = c.mark-m.ensures ∙ ap mark_of (ttsi_found s loop.i) in
-    let f = (rw cell at (sym c.is_field.ensures)) ∙ c.if-not-is_field.false in
-    let new : absent (ttsi_at loop.i s) (ttsis_of loop.i s) ≡ true =
-    elim c.if-marks-m.branch [
-      | then-marks-m+else-not-is_new w ↦ sym w.is_new.ensures ∙ w.if-not-is_new.false
-      | else-marks-m w ↦ unmarked loop.marks loop.i s loop.invariant.2 (rw m at w.if-marks-m.false)
+    let h = c.loop-i-test.true in
+    let t = ttsi_in (get_or fs loop.i []) in
+    let new : absent t (before fs loop.i) ≡ true =
+    elim c.else-marks-m.branch [
+      | else-marks-m-via-then-marks-m+else-is_seen w ↦ not_seen fs loop.i h _ w.ttsi.ensures (sym w.is_seen.ensures ∙ w.if-is_seen.false)
+      | else-marks-m-via-else-marks-m w ↦ unmarked loop.marks t (before fs loop.i) loop.invariant.1 (rw c.mark-m.ensures at w.if-marks-m.false)
     ] in (
-      omega arith,
-      length-set loop.marks _ _ ∙ loop.invariant.1,
-      rw m (marked loop.marks loop.i s loop.invariant.2 loop.invariant.1),
-      goes_on s c.args.n loop.i loop.invariant.3 (omega arith) (ttsi_at loop.i s) refl f new,
+      length-set loop.marks _ _ ∙ loop.invariant.0,
+      rw (c.mark-m.ensures, before_next fs loop.i h) (marked loop.marks loop.invariant.0 t (before fs loop.i) loop.invariant.1),
+      goes_on fs loop.i h loop.invariant.2 (sym c.is_field.ensures ∙ c.if-not-is_field.false) new,
     )
-
-pub returns : goal.returns
-returns c =
-    fields_end c.args.s.now c.args.n c.loop-i.i c.loop-i.invariant.3 (omega arith)

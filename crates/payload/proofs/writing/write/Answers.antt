@@ -1,32 +1,12 @@
--- `payload::writing::write` meets its contract: the parts are lent one behind the other, and `Writing` says what they make together.
+-- `payload::writing::write` meets its contract: the parts are lent one behind the other, and `Stores` says what they make together.
 -- Assumes nothing.
-use mathlib.Core.Path.{sym, ◌∙◌}
+use mathlib.Core.Path.{sym, ap, ◌∙◌}
 use native.Mathlib.Omega.{arith}
 use lib.ListN.{length-take}
-use Rattle.payload.proofs.Rows.{may_long}
-use Rattle.payload.proofs.Stores.{refused_12, refused_11, stored}
+use Rattle.payload.specs.Writing.{write_of}
+use Rattle.payload.proofs.Rows.{type_is}
+use Rattle.payload.proofs.Stores.{stored}
 use Rattle.payload.proofs.writing.write.Goals as goal
-
-pub returns-then-not-may_write : goal.returns-then-not-may_write
-returns-then-not-may_write c =
-    let a = c.args in
-    refused_12 a.ty a.ttsi.now a.rate a.dt a.dl a.buf.now (sym (c.may_write.ensures a.dl) ∙ c.if-not-may_write.true)
-
-pub returns-then-buf-lt-LENGTH : goal.returns-then-buf-lt-LENGTH
-returns-then-buf-lt-LENGTH c =
-    let a = c.args in
-    refused_11 a.ty a.ttsi.now a.rate a.dt a.dl a.buf.now (sym (c.may_write.ensures a.dl) ∙ c.if-not-may_write.false) c.if-buf-lt-LENGTH.true
-
-pub slice_bounds-head-end-2 : goal.slice_bounds-head-end-2
-slice_bounds-head-end-2 c = simp length-take (omega arith)
-
-pub head-requires : goal.head-requires
-head-requires c = simp length-take (omega arith)
-
-pub copy-requires : goal.copy-requires
-copy-requires c =
-    let a = c.args in
-    omega (arith, may_long a.ty a.ttsi.now a.rate a.dt a.dl (sym (c.may_write.ensures a.dl) ∙ c.if-not-may_write.false))
 
 pub slice_bounds-seal-end-2 : goal.slice_bounds-seal-end-2
 slice_bounds-seal-end-2 c = simp length-take (omega arith)
@@ -37,6 +17,6 @@ seal-requires c = simp length-take (omega arith)
 pub returns : goal.returns
 returns c =
     let a = c.args in
-    stored a.ty a.ttsi.now a.rate a.dt a.dl a.buf.now _ _ _ _ _
-    (sym (c.may_write.ensures a.dl) ∙ c.if-not-may_write.false) c.if-buf-lt-LENGTH.false
-    c.word_of-word.ensures c.head.ensures c.copy.ensures (c.tail.ensures a.ttsi.now a.dt) c.seal.ensures
+    stored c.in-Ok.ty a.ttsi.now a.rate a.dt a.dl a.buf.now c.in-Some.found (sym c.row.ensures ∙ c.in-Some.is) c.if-buf-lt-LENGTH.false _ _ _ _
+    (c.copy_from_slice.ensures.after ∙ c.head.ensures) c.copy_from_slice-2.ensures.after (c.copy_from_slice-3.ensures.after ∙ c.tail.ensures) c.seal.ensures
+    ∙ ap (λ ty. write_of ty a.ttsi.now a.rate a.dt a.dl a.buf.now) (sym (type_is a.ty c.in-Ok.ty (sym c.try_from.ensures ∙ c.in-Ok.is)))

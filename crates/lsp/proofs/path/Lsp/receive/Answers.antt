@@ -1,42 +1,43 @@
--- `lsp::Lsp::receive` meets its contract. Assumes nothing.
+-- `lsp::Lsp::receive` meets its contract: what the count answers of a CV or FFD packet is the step's answer.
+-- Assumes nothing.
+use mathlib.Core.Path.{ap, sym, ◌∙◌}
 use mathlib.Core.List.{List}
-use mathlib.Core.Logic.{◌⊎◌, ⊎_elim, inl, inr}
-use mathlib.Core.Path.{◌≡◌, refl, ap}
 use Prim.Native.Nat.{ℕ}
-use Rattle.lsp.proofs.Receives.{as_cv, as_ffd, as_fdi, as_bdi, as_refused}
-use Rattle.payload.specs.declared.reading.Found.TheVariants.{Cv, Ffd, Fdi, Bdi, Refused}
-use Rattle.payload.specs.declared.reading.Found.{Found}
+use Rattle.std.specs.Prelude.{Ok}
+use Rattle.std.proofs.lemmas.Result.{err_from_is_err_and}
+use Rattle.payload.specs.Reading.{answer_of}
+use Rattle.payload.specs.declared.found.Found.{Found}
+use Rattle.lsp.specs.Outcomes.{answered_in}
+use Rattle.lsp.proofs.Receives.{as_cv, as_ffd}
 use Rattle.lsp.proofs.path.Lsp.receive.Goals as goal
 
--- the cases that the last arm is left with
-left : (f : Found) → ((dt dl : ℕ) → f ≡ Fdi dt dl → ⊥) → ((dt dl : ℕ) → f ≡ Bdi dt dl → ⊥) → ((n : ℕ) → f ≡ Refused n → ⊥)
-    → (f ≡ Cv) ⊎ ((k : ℕ) × (f ≡ Ffd k))
-left Cv h b r = inl refl
-left (Ffd k) h b r = inr (k, refl)
-left (Fdi dt dl) h b r = absurd (h dt dl refl)
-left (Bdi dt dl) h b r = absurd (b dt dl refl)
-left (Refused n) h b r = absurd (r n refl)
-
-pub returns-in-Fdi : goal.returns-in-Fdi
-returns-in-Fdi c =
+pub returns-in_err-next-in-Cv : goal.returns-in_err-next-in-Cv
+returns-in_err-next-in-Cv c =
     let a = c.args in
-    as_fdi a.self a.p.now _ c.read-found.ensures _ _ _ c.in-Fdi.is c.told.ensures
+    let f = c.in_ok-found.found in
+    let q = err_from_is_err_and c.from_residual-in_err-next-in-Cv.result c.from_residual-in_err-next-in-Cv.ensures.1 in
+    let r = as_cv a.self a.p.now f c.in-Cv.is c.in_ok-found.ensures _ (ap (λ (x : (ℕ × ℕ) × List ℕ). x.1) c.ttsi_place.ensures) c.counted.result c.counted.ensures in
+    rw (q.1, q.2) (ap (answered_in (answer_of (Ok f)) a.self) (sym c.in_err-next-in-Cv.was) ∙ r)
 
-pub returns-in-Bdi : goal.returns-in-Bdi
-returns-in-Bdi c =
+pub returns-in_err-next-in-Ffd : goal.returns-in_err-next-in-Ffd
+returns-in_err-next-in-Ffd c =
     let a = c.args in
-    as_bdi a.self a.p.now _ c.read-found.ensures _ _ c.in-Bdi.is
+    let f = c.in_ok-found.found in
+    let q = err_from_is_err_and c.from_residual-in_err-next-in-Ffd.result c.from_residual-in_err-next-in-Ffd.ensures.1 in
+    let r = as_ffd a.self a.p.now f c.in-Ffd.rate c.in-Ffd.is c.in_ok-found.ensures _ (ap (λ (x : (ℕ × ℕ) × List ℕ). x.1) c.ttsi_place-in-Ffd.ensures) c.counted-in-Ffd.result c.counted-in-Ffd.ensures in
+    rw (q.1, q.2) (ap (answered_in (answer_of (Ok f)) a.self) (sym c.in_err-next-in-Ffd.was) ∙ r)
 
-pub returns-in-Refused : goal.returns-in-Refused
-returns-in-Refused c =
+pub returns-in_ok-next-in-Cv : goal.returns-in_ok-next-in-Cv
+returns-in_ok-next-in-Cv c =
     let a = c.args in
-    as_refused a.self a.p.now _ c.read-found.ensures _ c.in-Refused.is
+    let f = c.in_ok-found.found in
+    ap (answered_in (answer_of (Ok f)) a.self) (sym c.in_ok-next-in-Cv.was)
+    ∙ as_cv a.self a.p.now f c.in-Cv.is c.in_ok-found.ensures _ (ap (λ (x : (ℕ × ℕ) × List ℕ). x.1) c.ttsi_place.ensures) c.counted.result c.counted.ensures
 
-pub returns-in_default : goal.returns-in_default
-returns-in_default c =
+pub returns-in_ok-next-in-Ffd : goal.returns-in_ok-next-in-Ffd
+returns-in_ok-next-in-Ffd c =
     let a = c.args in
-    let t = ap (λ (x : (ℕ × ℕ) × List ℕ). x.1) c.ttsi_place.ensures in
-    ⊎_elim
-    (λ q. as_cv a.self a.p.now c.read-found.result c.read-found.ensures _ _ q t c.counted.ensures)
-    (λ q. as_ffd a.self a.p.now c.read-found.result c.read-found.ensures q.0 _ _ q.1 t c.counted.ensures)
-    (left c.read-found.result c.in_default.not-Fdi c.in_default.not-Bdi c.in_default.not-Refused)
+    let f = c.in_ok-found.found in
+    ap (λ (g : Found). (answer_of (Ok g), c.in_ok-next-in-Ffd.next)) (sym c.in-Ffd.is)
+    ∙ ap (answered_in (answer_of (Ok f)) a.self) (sym c.in_ok-next-in-Ffd.was)
+    ∙ as_ffd a.self a.p.now f c.in-Ffd.rate c.in-Ffd.is c.in_ok-found.ensures _ (ap (λ (x : (ℕ × ℕ) × List ℕ). x.1) c.ttsi_place-in-Ffd.ensures) c.counted-in-Ffd.result c.counted-in-Ffd.ensures

@@ -1,7 +1,0 @@
--- `cases::build::slots` meets its contract.
--- Assumes nothing.
-use Rattle.std.proofs.Common.{◌-◌, length}
-use Rattle.cases.proofs.build.slots.Given as goal
-
-abbrev pub decreases-loop-i : goal.decreases-loop-i
-decreases-loop-i l = length l.row - l.i

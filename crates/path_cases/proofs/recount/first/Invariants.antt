@@ -1,6 +1,0 @@
--- `path_cases::recount::first` meets its contract.
--- Assumes nothing.
-use Rattle.path_cases.proofs.recount.first.Given as goal
-
-abbrev pub decreases-loop-m : goal.decreases-loop-m
-decreases-loop-m l = l.m

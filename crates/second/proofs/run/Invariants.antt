@@ -1,6 +1,0 @@
--- `second::run` meets its contract.
--- Assumes nothing.
-use Rattle.second.proofs.run.Given as goal
-
-abbrev pub decreases-loop-turns : goal.decreases-loop-turns
-decreases-loop-turns g l = l.turns
