@@ -8,7 +8,8 @@ use Rattle.refusal.specs.declared.Refusal.{Refusal}
 use Rattle.refusal.proofs.Numbers.{refuses, same_refusal, same_written}
 use Rattle.payload.specs.Numbers.{dt_of, defect_in, with_defect}
 use Rattle.payload.specs.Reading.{Answer, answer_of}
-use Rattle.payload.specs.Promises.{One, OneOutcome, Named}
+use Rattle.refusal.specs.Numbers.{number_in}
+use Rattle.payload.specs.Promises.{One, OneOutcome, NumberRead, Named}
 use Rattle.payload.specs.declared.layout.DefectType.{DefectType}
 use Rattle.payload.specs.declared.layout.DefectType.TheVariants.{Server, PeerMe, Locv, Mismatch, Mismerge, Excess, Unknown}
 use Rattle.payload.specs.declared.found.Found.{Found}
@@ -63,10 +64,13 @@ pub one_outcome : OneOutcome
 one_outcome =
     record {
       read = λ p x y a b. same_answer x y (a ∙ sym b);
+      number = λ r. one _;
       ttsi = λ at p. one _;
       ttsi_place = λ at p. one _;
       write = λ ty t r dt dl b x y p q. same_written x y (p ∙ sym q);
       is_ttsi = λ t. one _;
+      function_type = λ ty. one _;
+      defect_type = λ dt. one _;
       is_defect = λ dt. one _;
       is_rate = λ code. one _;
       interval = λ code. one _;
@@ -75,6 +79,13 @@ one_outcome =
       slot = λ kind. one _;
       kind_life = λ kind. one _;
     }
+
+handed_on : (r : Result Found Refusal) → number_in r ≡ (answer_of r).number
+handed_on (Ok f) = sym (done f)
+handed_on (Err r) = refl
+
+pub number_read : NumberRead
+number_read = record { number = handed_on }
 
 pub named : (t b : List ℕ) (r r' dt dt' dl dl' : ℕ) → Named t b r r' dt dt' dl dl'
 named t b r r' dt dt' dl dl' = record { cv = refl; ffd = refl; fdi = refl; bdi = refl }

@@ -5,7 +5,8 @@ ghost use Rattle.payload.specs.Numbers.{type_of};
 ghost use Rattle.payload.specs.Reading.{answer_of, bip_right, clear_from, blank_from, clear_in, read_of, ttsi_part, ttsi_place};
 
 use crate::bip16::bip16;
-use crate::found::{Found, row};
+pub use crate::found::Found;
+use crate::found::row;
 use crate::layout::{BIP, FunctionType, LENGTH, OWN, TTSI};
 use refusal::Refusal;
 

@@ -24,19 +24,20 @@ fn head(found: Found) -> [u8; TTSI]
     [ty as u8, 0, high, low]
 }
 
-// Offsets 24 to 41: the rate or the defect location, and zeros.
-fn tail(found: Found) -> [u8; BIP - OWN]
-    ensures { result ≡ tail_in found }
+// Offsets 24 to 41: the rate or the defect location, and zeros. Into the octets lent: by an array that is handed back a write takes half
+// as long again.
+fn tail(s: &mut [u8], found: Found)
+    requires { length s.old ≡ 18 }
+    ensures { s.new ≡ tail_in found }
 {
-    let mut tail = [0; BIP - OWN];
+    s.fill(0);
     match found {
         Found::Cv => {}
-        Found::Ffd { rate } => tail[0] = rate,
-        Found::Fdi { dt: _, dl } | Found::Bdi { dt: _, dl } => tail[..4].copy_from_slice(
+        Found::Ffd { rate } => s[0] = rate,
+        Found::Fdi { dt: _, dl } | Found::Bdi { dt: _, dl } => s[..4].copy_from_slice(
             &dl.to_be_bytes(),
         ),
     }
-    tail
 }
 
 // Offsets 42 and 43, from those before them.
@@ -64,7 +65,7 @@ pub fn write(ty: u8, ttsi: &[u8], rate: u8, dt: u16, dl: u32, buf: &mut [u8]) ->
     }
     buf[..TTSI].copy_from_slice(&head(found));
     buf[TTSI..OWN].copy_from_slice(ttsi);
-    buf[OWN..BIP].copy_from_slice(&tail(found));
+    tail(&mut buf[OWN..BIP], found);
     seal(&mut buf[..LENGTH]);
     Ok(())
 }

@@ -6,7 +6,7 @@ use native.Mathlib.Omega.{arith}
 use lib.Dec.{eqb}
 use Rattle.std.specs.Prelude.{cond, Result, Ok, Err}
 use Rattle.refusal.specs.Numbers.{number_of, number_in}
-use Rattle.refusal.specs.Promises.{ByNumber}
+use Rattle.refusal.specs.Promises.{ByNumber, OneOutcome}
 use Rattle.refusal.specs.declared.Refusal.{Refusal}
 use Rattle.refusal.specs.declared.Refusal.TheVariants.{NoPath, Length, Bip16, Function, Row, OtherKind, Full, Taken, Limit, Broken, Short, Value, NoDefect}
 
@@ -64,3 +64,6 @@ same_written x y e = ap₂ (λ r b. (r, b)) (same_number (λ a b. refl) x.0 y.0 
 
 pub by_number : ByNumber
 by_number = record { refusal = same_refusal; refuses = refuses }
+
+pub one_outcome : OneOutcome
+one_outcome = record { from = λ r x y p q. p ∙ sym q; number = λ a x y p q. p ∙ sym q }

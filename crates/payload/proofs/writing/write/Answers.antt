@@ -18,5 +18,5 @@ pub returns : goal.returns
 returns c =
     let a = c.args in
     stored c.in-Ok.ty a.ttsi.now a.rate a.dt a.dl a.buf.now c.in-Some.found (sym c.row.ensures ∙ c.in-Some.is) c.if-buf-lt-LENGTH.false _ _ _ _
-    (c.copy_from_slice.ensures.after ∙ c.head.ensures) c.copy_from_slice-2.ensures.after (c.copy_from_slice-3.ensures.after ∙ c.tail.ensures) c.seal.ensures
+    (c.copy_from_slice.ensures.after ∙ c.head.ensures) c.copy_from_slice-2.ensures.after c.tail.ensures c.seal.ensures
     ∙ ap (λ ty. write_of ty a.ttsi.now a.rate a.dt a.dl a.buf.now) (sym (type_is a.ty c.in-Ok.ty (sym c.try_from.ensures ∙ c.in-Ok.is)))
