@@ -9,6 +9,7 @@ use Rattle.payload.specs.declared.found.Found.{Found}
 use Rattle.window.specs.declared.state.Defect.{Defect}
 use Rattle.window.specs.declared.state.Defect.TheVariants.{Clear}
 use Rattle.window.specs.declared.state.Record.{Record}
+use Rattle.window.specs.declared.state.State.{State}
 use Rattle.lsp.specs.declared.path.Lsp.{Lsp}
 use Rattle.lsp.specs.declared.close.Out.{Out}
 use Rattle.lsp.specs.declared.close.Closed as code
@@ -47,6 +48,11 @@ closed_in l (Err r) = record { number = number_of r; defect = Clear; out = nothi
 abbrev pub here_in : Result code.Closed Refusal → ClosedHere
 here_in (Ok c) = record { number = 0; defect = c.defect; out = c.out; handed = c.handed }
 here_in (Err r) = record { number = number_of r; defect = Clear; out = nothing_out; handed = None }
+
+-- the path with the state that is answered
+abbrev pub state_in : Lsp → Result State Refusal → Result Lsp Refusal
+state_in l (Ok s) = Ok (record { kind = l.kind; ttsi = l.ttsi; dl = l.dl; state = s; server = l.server; fdi = l.fdi })
+state_in l (Err r) = Err r
 
 -- by what the reader answered
 abbrev pub answered_in : Answer → Lsp → Result Lsp Refusal → Answer × Lsp
