@@ -1,6 +1,7 @@
 pub mod Frames
 pub mod Decimal
 pub mod Built
+pub mod Owns
 pub mod Told
 pub mod Runs
 pub mod Pieces

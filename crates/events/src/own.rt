@@ -11,8 +11,8 @@ use payload::{FunctionType, Kind, LENGTH};
 pub(crate) type Own = Option<[u8; LENGTH]>;
 
 #[tactic(auto, unfolding(crate::specs::Own::own_of))]
-fn own_of(l: Lsp) -> Own
-    ensures { own_in result ≡ own_of l }
+fn own_of(l: &Lsp) -> Own
+    ensures { own_in result ≡ own_of l.now }
 {
     let ty = if l.kind == Kind::CV {
         FunctionType::Cv
@@ -24,10 +24,15 @@ fn own_of(l: Lsp) -> Own
     Some(octets)
 }
 
-pub(crate) fn owns_of(lsps: [Lsp; 64]) -> [Own; 64]
-    ensures { map own_in result ≡ map own_of lsps }
+// Each is made in its place: by `map`, which takes all paths and hands all packets back, a run that has one event takes half as long again.
+pub(crate) fn owns_of(lsps: &[Lsp; 64]) -> [Own; 64]
+    ensures { map own_in result ≡ map own_of lsps.now }
 {
-    lsps.map(own_of)
+    let mut owns = [None; 64];
+    for (i, l) in lsps.iter().enumerate() {
+        owns[i] = own_of(l);
+    }
+    owns
 }
 
 // By arrays, whose length is known: by a slice's `==`, a scan of any length, a run takes a seventh longer.

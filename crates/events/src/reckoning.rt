@@ -3,7 +3,8 @@ ghost use Rattle.std.specs.Prelude.{◌≡◌};
 ghost use Rattle.events.specs.Outcomes.{ran_in};
 ghost use Rattle.events.specs.Printed.{begin, run_of, finish_of};
 
-use crate::framing::{Rest, frame};
+pub use crate::framing::Rest;
+use crate::framing::frame;
 use crate::lines::{LINE, say, say_last};
 use crate::paths::Paths;
 use table::Table;

@@ -1,26 +1,24 @@
 -- `events::own::owns_of` meets its contract: each path has its own packet in its place. Assumes nothing.
 use borrow.Author.Rules.{rules}
-use mathlib.Core.List.{map}
-use mathlib.Core.Path.{◌≡◌, sym, ◌∙◌}
+use mathlib.Core.Path.{◌≡◌, refl}
 use native.Mathlib.Omega.{arith}
-use Prim.Native.Nat.{◌<◌}
-use lib.ListN.{length, get_or, length-map}
-use Rattle.std.specs.Prelude.{None}
-use Rattle.std.proofs.lemmas.List.{ext_get_or, get_or-map}
-use Rattle.table.specs.Steps.{nowhere}
-use Rattle.events.specs.Own.{own_of}
-use Rattle.events.specs.Outcomes.{own_in}
+use lib.ListN.{length, length-set}
+use Rattle.events.proofs.Owns.{owned_next, owned_all}
 use Rattle.events.proofs.own.owns_of.Goals as goal
+
+pub loop-i-init : goal.loop-i-init
+loop-i-init c = (refl, refl)
+
+pub loop-i-preserved : goal.loop-i-preserved
+loop-i-preserved c =
+    let ls = c.args.lsps.now in
+    let paths : length ls ≡ 64 = search rules in
+    let loop = c.loop-i in
+    (simp length-set loop.invariant.0, owned_next loop.owns ls loop.i _ _ (omega (arith, paths, loop.invariant.0, c.loop-i-test.true)) (omega (arith, paths, c.loop-i-test.true)) c.own_of.ensures loop.invariant.1)
 
 pub returns : goal.returns
 returns c =
-    let lsps = c.args.lsps in
-    let owns = c.map.result in
-    let paths : length lsps ≡ 64 = search rules in
-    let long : length owns ≡ 64 = search rules in
-    ext_get_or (own_in None) (map own_in owns) (map own_of lsps) (simp length-map (omega (arith, paths, long))) (λ i h.
-    let k : i < 64 = omega (arith, length-map owns own_in, long) in
-    let made = c.map.ensures.items.at i nowhere None k in
-    let own : own_in (get_or owns i None) ≡ own_of (get_or lsps i nowhere) = search (rules, made) in
-    get_or-map own_in owns i None (own_in None) (omega (arith, k, long)) ∙ own ∙ sym (get_or-map own_of lsps i nowhere (own_in None) (omega (arith, k, paths)))
-    )
+    let ls = c.args.lsps.now in
+    let paths : length ls ≡ 64 = search rules in
+    let loop = c.loop-i in
+    owned_all loop.owns ls loop.i (omega (arith, loop.invariant.0, c.loop-i-test.false)) (omega (arith, paths, c.loop-i-test.false)) loop.invariant.1
