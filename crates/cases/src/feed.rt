@@ -1,10 +1,14 @@
 // A stream fed in pieces: what a run did not take is held back, and the next piece goes behind it.
+use arrayvec::ArrayVec;
 use events::{Reckoning, Rest};
-use std::alloc::{AllocError, Global};
 use std::io;
+use std::io::Write;
 
 // Room for a line, which is at most 65 octets.
 const LINE: usize = 65;
+
+// Room for a text.
+const TEXT: usize = 1024;
 
 // More than the longest stream's octets and events.
 const TURNS: usize = 32768;
@@ -16,15 +20,15 @@ fn first(s: &[u8], n: usize) -> &[u8] {
 }
 
 // The text of a stream in pieces of a size, with the lines of each run in a buffer.
-fn fed(alloc: Global, s: &[u8], size: usize, lines: &mut [u8]) -> Result<Vec<u8>, AllocError> {
-    let mut text = Vec::new(alloc);
+fn fed(s: &[u8], size: usize, lines: &mut [u8]) -> io::Result<ArrayVec<u8, TEXT>> {
+    let mut text = ArrayVec::new();
     let mut reckoning = Reckoning::begin();
     let mut rest = s;
     let mut seen = 0;
     for _ in 0..TURNS {
         let ran = reckoning.run(first(rest, seen), lines);
         reckoning = ran.next;
-        text.extend_from_slice(first(lines, ran.text))?;
+        text.write_all(first(lines, ran.text))?;
         rest = &rest[ran.taken.min(rest.len())..];
         seen = seen.saturating_sub(ran.taken);
         match ran.rest {
@@ -34,7 +38,7 @@ fn fed(alloc: Global, s: &[u8], size: usize, lines: &mut [u8]) -> Result<Vec<u8>
                 let whole = end == Rest::Cut && rest.is_empty();
                 let mut line = [0; LINE];
                 let n = reckoning.finish(whole, &mut line);
-                text.extend_from_slice(first(&line, n))?;
+                text.write_all(first(&line, n))?;
                 return Ok(text);
             }
         }
@@ -44,13 +48,13 @@ fn fed(alloc: Global, s: &[u8], size: usize, lines: &mut [u8]) -> Result<Vec<u8>
 
 // Whether that is the text; where not, it is printed.
 fn prints(
-    rt: &(impl Print + AllocGlobal),
+    rt: &impl Print,
     s: &[u8],
     size: usize,
     lines: &mut [u8],
     text: &str,
 ) -> io::Result<bool> {
-    let printed = fed(rt.alloc(), s, size, lines)?;
+    let printed = fed(s, size, lines)?;
     let is_text = printed.as_slice() == text.as_bytes();
     if !is_text {
         println!(rt; " in pieces of {size}:")?;
@@ -60,7 +64,7 @@ fn prints(
 }
 
 // In one piece, octet by octet, and in pieces of 7 with room for one line.
-pub(crate) fn is_text(rt: &(impl Print + AllocGlobal), s: &[u8], text: &str) -> io::Result<bool> {
+pub(crate) fn is_text(rt: &impl Print, s: &[u8], text: &str) -> io::Result<bool> {
     let mut many = [0; 64 * LINE];
     let mut one = [0; LINE];
     let whole = prints(rt, s, s.len(), &mut many, text)?;

@@ -2,7 +2,6 @@
 use crate::build::Events;
 use crate::packets;
 use crate::tally::Tally;
-use std::alloc::AllocError;
 use std::io;
 
 const TAGS: [(&str, &[u8]); 6] = [
@@ -74,12 +73,12 @@ const AFTER: [(&str, &[u8], &str); 9] = [
     ),
 ];
 
-fn bad<R: Print + AllocGlobal>(t: &mut Tally<R>, name: &str, s: &[u8]) -> io::Result<()> {
+fn bad<R: Print>(t: &mut Tally<R>, name: &str, s: &[u8]) -> io::Result<()> {
     t.stream(name, s, "bad 0\n")
 }
 
 // An event cut after so many octets.
-fn cut<R: Print + AllocGlobal, F: FnOnce(&mut Events) -> Result<(), AllocError>>(
+fn cut<R: Print, F: FnOnce(&mut Events) -> io::Result<()>>(
     t: &mut Tally<R>,
     name: &str,
     n: usize,
@@ -87,12 +86,12 @@ fn cut<R: Print + AllocGlobal, F: FnOnce(&mut Events) -> Result<(), AllocError>>
 ) -> io::Result<()>
     requires { F.IsAlwaysCallable event }
 {
-    let mut s = t.events();
+    let mut s = Events::new();
     event(&mut s)?;
     bad(t, name, s.first(n))
 }
 
-fn cuts<R: Print + AllocGlobal>(t: &mut Tally<R>) -> io::Result<()> {
+fn cuts<R: Print>(t: &mut Tally<R>) -> io::Result<()> {
     let p = packets::own(0, 0);
     cut(t, "a close cut after 1 octet", 1, |s| s.close(0))?;
     cut(t, "a close cut after 2 octets", 2, |s| s.close(0))?;
@@ -114,9 +113,9 @@ fn cuts<R: Print + AllocGlobal>(t: &mut Tally<R>) -> io::Result<()> {
     )
 }
 
-fn lengths<R: Print + AllocGlobal>(t: &mut Tally<R>) -> io::Result<()> {
+fn lengths<R: Print>(t: &mut Tally<R>) -> io::Result<()> {
     for (name, head, n) in LENGTHS {
-        let mut s = t.events();
+        let mut s = Events::new();
         s.raw(head)?;
         s.zeros(n)?;
         bad(t, name, s.as_slice())?;
@@ -124,9 +123,9 @@ fn lengths<R: Print + AllocGlobal>(t: &mut Tally<R>) -> io::Result<()> {
     Ok(())
 }
 
-fn after<R: Print + AllocGlobal>(t: &mut Tally<R>) -> io::Result<()> {
+fn after<R: Print>(t: &mut Tally<R>) -> io::Result<()> {
     for (name, octets, text) in AFTER {
-        let mut s = t.events();
+        let mut s = Events::new();
         s.path(0, 0)?;
         s.slots(0, 0, b"00011")?;
         s.raw(octets)?;
@@ -135,7 +134,7 @@ fn after<R: Print + AllocGlobal>(t: &mut Tally<R>) -> io::Result<()> {
     Ok(())
 }
 
-pub(crate) fn cases<R: Print + AllocGlobal>(t: &mut Tally<R>) -> io::Result<()> {
+pub(crate) fn cases<R: Print>(t: &mut Tally<R>) -> io::Result<()> {
     for (name, s) in TAGS {
         bad(t, name, s)?;
     }
@@ -145,7 +144,7 @@ pub(crate) fn cases<R: Print + AllocGlobal>(t: &mut Tally<R>) -> io::Result<()> 
         bad(t, name, s)?;
     }
     after(t)?;
-    let mut s = t.events();
+    let mut s = Events::new();
     s.path(0, 0)?;
     s.packet(0, &[0; 1023])?;
     t.built("a packet of 1024 octets", &s, "r 2 2\nend 2\n")

@@ -15,12 +15,17 @@ mod tally;
 use std::io;
 use tally::Tally;
 
-fn main(rt: HostRuntime) -> io::Result<()> {
-    let mut t = Tally::new(&rt);
+fn told(rt: &impl Print) -> io::Result<()> {
+    let mut t = Tally::new(rt);
     paper::cases(&mut t)?;
     framing::cases(&mut t)?;
     refusals::cases(&mut t)?;
     rows::cases(&mut t)?;
     paths::cases(&mut t)?;
     t.show()
+}
+
+// What is printed is the whole answer: a write that fails ends the cases, and the status stays 0.
+fn main(rt: HostRuntime) {
+    told(&rt).ok();
 }

@@ -1,4 +1,5 @@
 // The paper's numbers that no proof has.
+use crate::build::Events;
 use crate::packets;
 use crate::packets::T;
 use crate::tally::Tally;
@@ -7,12 +8,12 @@ use std::io;
 use window::Defect;
 
 // 43 octets, read and as an event.
-fn short<R: Print + AllocGlobal>(t: &mut Tally<R>) -> io::Result<()> {
+fn short<R: Print>(t: &mut Tally<R>) -> io::Result<()> {
     let p = packets::own(0, 0);
     let p = packets::cut(&p);
     let number = refusal::number(payload::read(p));
     t.number("43 octets, read", u64::from(number), 2)?;
-    let mut s = t.events();
+    let mut s = Events::new();
     s.path(0, 0)?;
     s.packet(0, p)?;
     t.built("43 octets, an event", &s, "r 2 2\nend 2\n")
@@ -32,7 +33,7 @@ fn flooded(k: u16) -> Lsp {
     l
 }
 
-fn excess<R: Print + AllocGlobal>(t: &mut Tally<R>) -> io::Result<()> {
+fn excess<R: Print>(t: &mut Tally<R>) -> io::Result<()> {
     let is_excess = flooded(256)
         .close()
         .is_ok_and(|(closed, _)| closed.defect == Defect::Excess);
@@ -40,8 +41,8 @@ fn excess<R: Print + AllocGlobal>(t: &mut Tally<R>) -> io::Result<()> {
 }
 
 // The same as events. It stands, with no record, until slots 4, 5 and 6 have E 1: B 1 4, where a flood read as silence would give B 1 3.
-fn flood<R: Print + AllocGlobal>(t: &mut Tally<R>) -> io::Result<()> {
-    let mut s = t.events();
+fn flood<R: Print>(t: &mut Tally<R>) -> io::Result<()> {
+    let mut s = Events::new();
     s.path(0, 0)?;
     s.slots(0, 0, b"00")?;
     s.packets(0, &packets::own(0, 0), 256)?;
@@ -53,7 +54,7 @@ fn flood<R: Print + AllocGlobal>(t: &mut Tally<R>) -> io::Result<()> {
     )
 }
 
-pub(crate) fn cases<R: Print + AllocGlobal>(t: &mut Tally<R>) -> io::Result<()> {
+pub(crate) fn cases<R: Print>(t: &mut Tally<R>) -> io::Result<()> {
     short(t)?;
     excess(t)?;
     flood(t)?;

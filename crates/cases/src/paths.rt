@@ -3,15 +3,14 @@ use crate::build::Events;
 use crate::packets;
 use crate::packets::{Payload, T};
 use crate::tally::Tally;
-use std::alloc::AllocError;
 use std::io;
 
 // The slots of a path by the program of 42 events.
 const OUTAGE: &[u8] = b"11100000000000000000111111111";
 
 // Records in the order of their closes.
-fn order<R: Print + AllocGlobal>(t: &mut Tally<R>) -> io::Result<()> {
-    let mut s = t.events();
+fn order<R: Print>(t: &mut Tally<R>) -> io::Result<()> {
+    let mut s = Events::new();
     s.path(0, 0)?;
     s.path(0, 1)?;
     s.slots(0, 0, b"0001")?;
@@ -21,13 +20,8 @@ fn order<R: Print + AllocGlobal>(t: &mut Tally<R>) -> io::Result<()> {
 }
 
 // Two paths slot by slot, the second of a kind.
-fn pair<R: Print + AllocGlobal>(
-    t: &mut Tally<R>,
-    name: &str,
-    kind: u8,
-    text: &str,
-) -> io::Result<()> {
-    let mut s = t.events();
+fn pair<R: Print>(t: &mut Tally<R>, name: &str, kind: u8, text: &str) -> io::Result<()> {
+    let mut s = Events::new();
     s.path(0, 0)?;
     s.path(kind, 1)?;
     for (a, b) in OUTAGE.iter().zip(b"00011111110000011111111111111") {
@@ -38,7 +32,7 @@ fn pair<R: Print + AllocGlobal>(
 }
 
 // 64 paths, of kinds 0 to 6 in turn.
-fn fill(s: &mut Events) -> Result<(), AllocError> {
+fn fill(s: &mut Events) -> io::Result<()> {
     for n in 0..64 {
         s.path(n % 7, n)?;
     }
@@ -46,25 +40,19 @@ fn fill(s: &mut Events) -> Result<(), AllocError> {
 }
 
 // 64 paths, and an add with the n-th path's TTSI.
-fn over<R: Print + AllocGlobal>(
-    t: &mut Tally<R>,
-    name: &str,
-    kind: u8,
-    n: u8,
-    text: &str,
-) -> io::Result<()> {
-    let mut s = t.events();
+fn over<R: Print>(t: &mut Tally<R>, name: &str, kind: u8, n: u8, text: &str) -> io::Result<()> {
+    let mut s = Events::new();
     fill(&mut s)?;
     s.path(kind, n)?;
     t.built(name, &s, text)
 }
 
-fn limits<R: Print + AllocGlobal>(t: &mut Tally<R>) -> io::Result<()> {
-    let mut s = t.events();
+fn limits<R: Print>(t: &mut Tally<R>) -> io::Result<()> {
+    let mut s = Events::new();
     fill(&mut s)?;
     s.slots(63, 0, b"00011")?;
     t.built("the 64th add: LSP 63", &s, "63 B 1 3\nend 71\n")?;
-    let mut s = t.events();
+    let mut s = Events::new();
     fill(&mut s)?;
     s.close(64)?;
     t.built("64 paths, a close of LSP 64", &s, "r 65 1\nend 65\n")?;
@@ -74,7 +62,7 @@ fn limits<R: Print + AllocGlobal>(t: &mut Tally<R>) -> io::Result<()> {
 }
 
 // So many pairs of slots of one packet.
-fn quiet(s: &mut Events, k: u8) -> Result<(), AllocError> {
+fn quiet(s: &mut Events, k: u8) -> io::Result<()> {
     for _ in 0..k {
         s.slots(0, 0, b"11")?;
     }
@@ -82,8 +70,8 @@ fn quiet(s: &mut Events, k: u8) -> Result<(), AllocError> {
 }
 
 // Slots of three digits, and indices of two and three.
-fn digits<R: Print + AllocGlobal>(t: &mut Tally<R>) -> io::Result<()> {
-    let mut s = t.events();
+fn digits<R: Print>(t: &mut Tally<R>) -> io::Result<()> {
+    let mut s = Events::new();
     s.path(0, 0)?;
     quiet(&mut s, 2)?;
     s.close(9)?;
@@ -99,9 +87,9 @@ fn digits<R: Print + AllocGlobal>(t: &mut Tally<R>) -> io::Result<()> {
 }
 
 // P8 with FDIs, BDIs and server signals in its slots.
-fn signals<R: Print + AllocGlobal>(t: &mut Tally<R>) -> io::Result<()> {
+fn signals<R: Print>(t: &mut Tally<R>) -> io::Result<()> {
     let fdi = packets::fdi(&T);
-    let mut s = t.events();
+    let mut s = Events::new();
     s.path(0, 0)?;
     s.packet(0, &fdi)?;
     s.packet(0, &packets::bdi(&packets::ttsi(1)))?;
@@ -116,8 +104,8 @@ fn signals<R: Print + AllocGlobal>(t: &mut Tally<R>) -> io::Result<()> {
 }
 
 // A packet in slot 3 that is another path's: Mismatch.
-fn foreign<R: Print + AllocGlobal>(t: &mut Tally<R>, name: &str, p: &Payload) -> io::Result<()> {
-    let mut s = t.events();
+fn foreign<R: Print>(t: &mut Tally<R>, name: &str, p: &Payload) -> io::Result<()> {
+    let mut s = Events::new();
     s.path(0, 0)?;
     s.slots(0, 0, b"00")?;
     s.packet(0, p)?;
@@ -125,7 +113,7 @@ fn foreign<R: Print + AllocGlobal>(t: &mut Tally<R>, name: &str, p: &Payload) ->
     t.built(name, &s, "0 B 1 4\nend 11\n")
 }
 
-pub(crate) fn cases<R: Print + AllocGlobal>(t: &mut Tally<R>) -> io::Result<()> {
+pub(crate) fn cases<R: Print>(t: &mut Tally<R>) -> io::Result<()> {
     order(t)?;
     pair(
         t,

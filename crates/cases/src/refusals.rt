@@ -1,4 +1,5 @@
 // Refused events, each with its index and its number.
+use crate::build::Events;
 use crate::packets;
 use crate::packets::{T, changed, cut, damaged};
 use crate::tally::Tally;
@@ -28,20 +29,14 @@ const SECOND: [(&str, u8, u8, &str); 4] = [
 ];
 
 // A path of a kind, and a payload for it.
-fn sent<R: Print + AllocGlobal>(
-    t: &mut Tally<R>,
-    name: &str,
-    kind: u8,
-    p: &[u8],
-    text: &str,
-) -> io::Result<()> {
-    let mut s = t.events();
+fn sent<R: Print>(t: &mut Tally<R>, name: &str, kind: u8, p: &[u8], text: &str) -> io::Result<()> {
+    let mut s = Events::new();
     s.path(kind, 0)?;
     s.packet(0, p)?;
     t.built(name, &s, text)
 }
 
-fn lengths<R: Print + AllocGlobal>(t: &mut Tally<R>) -> io::Result<()> {
+fn lengths<R: Print>(t: &mut Tally<R>) -> io::Result<()> {
     let cv = packets::own(0, 0);
     let mut long = [0; 45];
     long[..44].copy_from_slice(&cv);
@@ -55,7 +50,7 @@ fn lengths<R: Print + AllocGlobal>(t: &mut Tally<R>) -> io::Result<()> {
     )
 }
 
-fn octets<R: Print + AllocGlobal>(t: &mut Tally<R>) -> io::Result<()> {
+fn octets<R: Print>(t: &mut Tally<R>) -> io::Result<()> {
     let cv = packets::own(0, 0);
     sent(t, "3: BIP16", 0, &damaged(cv), "r 2 3\nend 2\n")?;
     sent(
@@ -67,7 +62,7 @@ fn octets<R: Print + AllocGlobal>(t: &mut Tally<R>) -> io::Result<()> {
     )
 }
 
-fn types<R: Print + AllocGlobal>(t: &mut Tally<R>) -> io::Result<()> {
+fn types<R: Print>(t: &mut Tally<R>) -> io::Result<()> {
     let cv = packets::own(0, 0);
     let padded = changed(changed(cv, 41, 1), 0, 8);
     sent(t, "4: type 04", 0, &changed(cv, 0, 4), "r 2 4\nend 2\n")?;
@@ -81,7 +76,7 @@ fn types<R: Print + AllocGlobal>(t: &mut Tally<R>) -> io::Result<()> {
     )
 }
 
-fn rules<R: Print + AllocGlobal>(t: &mut Tally<R>) -> io::Result<()> {
+fn rules<R: Print>(t: &mut Tally<R>) -> io::Result<()> {
     let cv = packets::own(0, 0);
     sent(
         t,
@@ -100,7 +95,7 @@ fn rules<R: Print + AllocGlobal>(t: &mut Tally<R>) -> io::Result<()> {
     )
 }
 
-fn rates<R: Print + AllocGlobal>(t: &mut Tally<R>) -> io::Result<()> {
+fn rates<R: Print>(t: &mut Tally<R>) -> io::Result<()> {
     let ffd = packets::own(0, 3);
     sent(
         t,
@@ -118,7 +113,7 @@ fn rates<R: Print + AllocGlobal>(t: &mut Tally<R>) -> io::Result<()> {
     )
 }
 
-fn defects<R: Print + AllocGlobal>(t: &mut Tally<R>) -> io::Result<()> {
+fn defects<R: Print>(t: &mut Tally<R>) -> io::Result<()> {
     let fdi = packets::fdi(&T);
     let low = changed(fdi, 2, 0);
     let high = changed(fdi, 2, 255);
@@ -127,7 +122,7 @@ fn defects<R: Print + AllocGlobal>(t: &mut Tally<R>) -> io::Result<()> {
     sent(t, "5: DT ffff", 0, &changed(high, 3, 255), "r 2 5\nend 2\n")
 }
 
-fn kinds<R: Print + AllocGlobal>(t: &mut Tally<R>) -> io::Result<()> {
+fn kinds<R: Print>(t: &mut Tally<R>) -> io::Result<()> {
     let cv = packets::own(0, 0);
     let ffd = packets::own(0, 3);
     sent(t, "6: FFD, a CV path", 0, &ffd, "r 2 6\nend 2\n")?;
@@ -141,7 +136,7 @@ fn kinds<R: Print + AllocGlobal>(t: &mut Tally<R>) -> io::Result<()> {
     )
 }
 
-fn taken<R: Print + AllocGlobal>(t: &mut Tally<R>) -> io::Result<()> {
+fn taken<R: Print>(t: &mut Tally<R>) -> io::Result<()> {
     sent(
         t,
         "not 6: FDI with the expected TTSI",
@@ -158,11 +153,11 @@ fn taken<R: Print + AllocGlobal>(t: &mut Tally<R>) -> io::Result<()> {
     )
 }
 
-fn adds<R: Print + AllocGlobal>(t: &mut Tally<R>) -> io::Result<()> {
+fn adds<R: Print>(t: &mut Tally<R>) -> io::Result<()> {
     for (name, kind, tunnel, text) in SECOND {
         let mut o = T;
         o[16] = tunnel;
-        let mut s = t.events();
+        let mut s = Events::new();
         s.path(0, 0)?;
         s.add(kind, &o)?;
         t.built(name, &s, text)?;
@@ -171,8 +166,8 @@ fn adds<R: Print + AllocGlobal>(t: &mut Tally<R>) -> io::Result<()> {
 }
 
 // Refused packets are not counted: slot 3 has a damaged CV and an FFD.
-fn uncounted<R: Print + AllocGlobal>(t: &mut Tally<R>) -> io::Result<()> {
-    let mut s = t.events();
+fn uncounted<R: Print>(t: &mut Tally<R>) -> io::Result<()> {
+    let mut s = Events::new();
     s.path(0, 0)?;
     s.slots(0, 0, b"00")?;
     s.packet(0, &damaged(packets::own(0, 0)))?;
@@ -186,8 +181,8 @@ fn uncounted<R: Print + AllocGlobal>(t: &mut Tally<R>) -> io::Result<()> {
 }
 
 // Refused adds take no number.
-fn unnumbered<R: Print + AllocGlobal>(t: &mut Tally<R>) -> io::Result<()> {
-    let mut s = t.events();
+fn unnumbered<R: Print>(t: &mut Tally<R>) -> io::Result<()> {
+    let mut s = Events::new();
     s.path(0, 0)?;
     s.path(0, 0)?;
     s.path(9, 1)?;
@@ -201,8 +196,8 @@ fn unnumbered<R: Print + AllocGlobal>(t: &mut Tally<R>) -> io::Result<()> {
 }
 
 // A refused close closes no slot.
-fn unclosed<R: Print + AllocGlobal>(t: &mut Tally<R>) -> io::Result<()> {
-    let mut s = t.events();
+fn unclosed<R: Print>(t: &mut Tally<R>) -> io::Result<()> {
+    let mut s = Events::new();
     s.path(0, 0)?;
     s.slots(0, 0, b"00")?;
     s.close(1)?;
@@ -214,7 +209,7 @@ fn unclosed<R: Print + AllocGlobal>(t: &mut Tally<R>) -> io::Result<()> {
     )
 }
 
-pub(crate) fn cases<R: Print + AllocGlobal>(t: &mut Tally<R>) -> io::Result<()> {
+pub(crate) fn cases<R: Print>(t: &mut Tally<R>) -> io::Result<()> {
     for (name, s, text) in UNKNOWN {
         t.stream(name, s, text)?;
     }

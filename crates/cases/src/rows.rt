@@ -102,7 +102,7 @@ const ROWS: [(&str, u8, &[u8], &str); 31] = [
     ("FFD, Mismerge and Excess", 6, b"111m1119111", "end 32\n"),
 ];
 
-pub(crate) fn cases<R: Print + AllocGlobal>(t: &mut Tally<R>) -> io::Result<()> {
+pub(crate) fn cases<R: Print>(t: &mut Tally<R>) -> io::Result<()> {
     for (name, kind, row, text) in ROWS {
         t.kind_row(name, kind, row, text)?;
     }

@@ -10,18 +10,13 @@ pub(crate) struct Tally<'a, R> {
     failures: u32,
 }
 
-impl<'a, R: Print + AllocGlobal> Tally<'a, R> {
+impl<'a, R: Print> Tally<'a, R> {
     pub(crate) fn new(rt: &'a R) -> Tally<'a, R> {
         Tally {
             rt,
             cases: 0,
             failures: 0,
         }
-    }
-
-    // No events yet.
-    pub(crate) fn events(&self) -> Events {
-        Events::new(self.rt.alloc())
     }
 
     // With a case whose name is printed.
@@ -63,7 +58,7 @@ impl<'a, R: Print + AllocGlobal> Tally<'a, R> {
         row: &[u8],
         text: &str,
     ) -> io::Result<()> {
-        let mut s = self.events();
+        let mut s = Events::new();
         s.path(kind, 0)?;
         s.slots(0, kind, row)?;
         self.built(name, &s, text)
