@@ -14,9 +14,14 @@ mod three;
 
 use std::io;
 
-fn main(rt: HostRuntime) -> io::Result<()> {
-    saved::claims(&rt)?;
-    census::claims(&rt)?;
-    swept::claims(&rt)?;
-    named::claims(&rt)
+fn claims(rt: &impl Print) -> io::Result<()> {
+    saved::claims(rt)?;
+    census::claims(rt)?;
+    swept::claims(rt)?;
+    named::claims(rt)
+}
+
+// A line that could not be written ends the claims, and is no failure of the image.
+fn main(rt: HostRuntime) {
+    claims(&rt).ok();
 }

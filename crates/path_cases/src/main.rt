@@ -18,12 +18,17 @@ mod writing;
 
 use std::io;
 
-fn main(rt: HostRuntime) -> io::Result<()> {
-    numbers::claims(&rt)?;
-    outgoing::claims(&rt)?;
-    lives::claims(&rt)?;
-    receiving::claims(&rt)?;
-    writing::claims(&rt)?;
-    limit::claims(&rt)?;
-    long::claims(&rt)
+fn claims(rt: &impl Print) -> io::Result<()> {
+    numbers::claims(rt)?;
+    outgoing::claims(rt)?;
+    lives::claims(rt)?;
+    receiving::claims(rt)?;
+    writing::claims(rt)?;
+    limit::claims(rt)?;
+    long::claims(rt)
+}
+
+// A line that could not be written ends the claims, and is no failure of the path.
+fn main(rt: HostRuntime) {
+    claims(&rt).ok();
 }

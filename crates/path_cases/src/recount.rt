@@ -22,21 +22,20 @@ fn last(past: &[Slot], k: usize) -> &[Slot] {
     &past[past.len().saturating_sub(k)..]
 }
 
-// The sums over the last k slots.
-fn sums(past: &[Slot], k: usize) -> (u32, u32) {
-    last(past, k).iter().fold((0u32, 0u32), |(e, u), slot| {
-        (
-            e.saturating_add(u32::from(slot.e)),
-            u.saturating_add(u32::from(slot.u)),
-        )
-    })
+// The sum over the last k slots, which does not come near 2^32.
+fn sum<F: Fn(&Slot) -> u16>(past: &[Slot], k: usize, of: F) -> u32
+    requires { F.IsAlwaysCallable of }
+{
+    last(past, k)
+        .iter()
+        .fold(0u32, |n, slot| n.wrapping_add(u32::from(of(slot))))
 }
 
 fn says(past: &[Slot]) -> Option<Said> {
     if past.len() < 3 {
         return None;
     }
-    match sums(past, 3) {
+    match (sum(past, 3, |slot| slot.e), sum(past, 3, |slot| slot.u)) {
         (0, 0) => Some(Said::Entry(Defect::Locv)),
         (1, 0) => None,
         (2..=4, 0) => Some(Said::Exit),
@@ -61,13 +60,22 @@ fn defect(past: &[Slot]) -> Defect {
 
 // Whether the defect stood at the last eleven closes.
 fn stood_eleven(past: &[Slot]) -> bool {
-    11 <= past.len() && last(past, 11).iter().all(|slot| slot.defect.stands())
+    11 <= past.len()
+        && last(past, 11)
+            .iter()
+            .all(|slot| slot.defect != Defect::Clear)
 }
 
 // Whether the last close had no defect, 9 to 11 expected packets over ten slots, and no other.
 fn clears(past: &[Slot]) -> bool {
-    let (e, u) = sums(past, 10);
-    last(past, 1).iter().all(|slot| !slot.defect.stands()) && 9 <= e && e <= 11 && u == 0
+    if last(past, 1)
+        .iter()
+        .any(|slot| slot.defect != Defect::Clear)
+    {
+        return false;
+    }
+    let e = sum(past, 10, |slot| slot.e);
+    9 <= e && e <= 11 && sum(past, 10, |slot| slot.u) == 0
 }
 
 // Whether at some close the defect had stood eleven, and no close after it clears.

@@ -26,13 +26,17 @@ fn ended(past: &[Slot]) -> Option<Record> {
             until: n.saturating_sub(9),
         });
     }
-    if now.defect.stands() || !latest.defect.stands() {
+    if now.defect != Defect::Clear || latest.defect == Defect::Clear {
         return None;
     }
-    let e = first(before, |slot| slot.defect.stands());
-    if first(past, |slot| !slot.is_out) > e {
+    let mut stood = before
+        .iter()
+        .rev()
+        .take_while(|slot| slot.defect != Defect::Clear);
+    if stood.any(|slot| slot.is_out) {
         return None;
     }
+    let e = first(before, |slot| slot.defect != Defect::Clear);
     Some(Record::B {
         from: e.saturating_sub(2),
         until: n.saturating_sub(2),

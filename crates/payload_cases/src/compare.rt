@@ -6,22 +6,30 @@ use refusal::Refusal;
 // What a buffer holds before a call writes into it.
 pub(crate) const FILL: u8 = 0xAA;
 
-// How many octets are the same at the same offset.
-pub(crate) fn alike(a: &[u8], b: &[u8]) -> usize {
-    a.iter().zip(b).filter(|(x, y)| **x == **y).count()
+// How many octets are the same at the same offset. No count here comes near 2^32, and the plain sum costs least.
+pub(crate) fn alike(a: &[u8], b: &[u8]) -> u32 {
+    let mut n = 0u32;
+    for (x, y) in a.iter().zip(b) {
+        n = n.wrapping_add(u32::from(*x == *y));
+    }
+    n
 }
 
 // How many octets are aa.
-pub(crate) fn left(b: &[u8]) -> usize {
-    b.iter().filter(|octet| **octet == FILL).count()
+pub(crate) fn left(b: &[u8]) -> u32 {
+    let mut n = 0u32;
+    for octet in b {
+        n = n.wrapping_add(u32::from(*octet == FILL));
+    }
+    n
 }
 
 // The answer, the octets that are those of a given payload, and those after the first 44 that are still aa.
 #[derive(Clone, Copy, PartialEq, Eq)]
 pub(crate) struct Outcome {
     pub answer: Result<(), Refusal>,
-    pub alike: usize,
-    pub left: usize,
+    pub alike: u32,
+    pub left: u32,
 }
 
 impl Outcome {

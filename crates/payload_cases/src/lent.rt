@@ -15,7 +15,7 @@ fn claim_sizes(rt: &impl Print, sample: Sample) -> io::Result<()> {
     for size in 0..=SIZE {
         let mut b = [FILL; SIZE];
         answers.count(refusal::number(sample.write(&mut b[..size])));
-        kept = kept.saturating_add(u32::from(left(&b) == SIZE));
+        kept = kept.saturating_add(u32::from(left(&b) as usize == SIZE));
     }
     println!(rt; "{name}, written into 0 to 64 octets of aa, answer:times{answers}")?;
     println!(rt; "{name}, so written, buffers left as they were: {kept}")

@@ -13,11 +13,16 @@ mod written;
 
 use std::io;
 
-fn main(rt: HostRuntime) -> io::Result<()> {
-    written::claims(&rt)?;
-    damaged::claims(&rt)?;
-    swept::claims(&rt)?;
-    tables::claims(&rt)?;
-    lent::claims(&rt)?;
-    ttsis::claims(&rt)
+fn claims(rt: &impl Print) -> io::Result<()> {
+    written::claims(rt)?;
+    damaged::claims(rt)?;
+    swept::claims(rt)?;
+    tables::claims(rt)?;
+    lent::claims(rt)?;
+    ttsis::claims(rt)
+}
+
+// A line that could not be written ends the claims, and is no failure of the payload.
+fn main(rt: HostRuntime) {
+    claims(&rt).ok();
 }

@@ -76,11 +76,15 @@ fn defect_row(rt: &impl Print, name: &str, ty: FunctionType) -> io::Result<()> {
     )
 }
 
-fn main(rt: HostRuntime) -> io::Result<()> {
-    let rt = &rt;
+fn rows(rt: &impl Print) -> io::Result<()> {
     println!(rt; "{:<57}{:<37}42-43 read", "type 0  1  2-3  4-23", "24-41")?;
     row(rt, "CV", FunctionType::Cv, &T, 0, 0, 0)?;
     row(rt, "FFD", FunctionType::Ffd, &T, 3, 0, 0)?;
     defect_row(rt, "FDI", FunctionType::Fdi)?;
     defect_row(rt, "BDI", FunctionType::Bdi)
+}
+
+// A line that could not be written ends the table, and is no failure of the payload.
+fn main(rt: HostRuntime) {
+    rows(&rt).ok();
 }

@@ -100,8 +100,7 @@ fn many(rt: &impl Print) -> io::Result<()> {
     calling(rt, "a count of 900, calls on 64", many, 64)
 }
 
-fn main(rt: HostRuntime) -> io::Result<()> {
-    let rt = &rt;
+fn claims(rt: &impl Print) -> io::Result<()> {
     let one = filled(1);
     let full = filled(64);
     let numbered = made::numbered(64);
@@ -113,4 +112,9 @@ fn main(rt: HostRuntime) -> io::Result<()> {
     marks(rt, "after the signal of path 5", signalled(full, 5))?;
     marks(rt, "after three closes of path 5", silent(full, 5))?;
     writing(rt, full)
+}
+
+// A line that could not be written ends the claims, and is no failure of the table.
+fn main(rt: HostRuntime) {
+    claims(&rt).ok();
 }
