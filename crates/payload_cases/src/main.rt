@@ -9,9 +9,11 @@ mod samples;
 mod swept;
 mod tables;
 mod ttsis;
+mod unheeded;
 mod written;
 
 use std::io;
+use unheeded::Unheeded;
 
 fn claims(rt: &impl Print) -> io::Result<()> {
     written::claims(rt)?;
@@ -22,7 +24,6 @@ fn claims(rt: &impl Print) -> io::Result<()> {
     ttsis::claims(rt)
 }
 
-// A line that could not be written ends the claims, and is no failure of the payload.
 fn main(rt: HostRuntime) {
-    claims(&rt).ok();
+    claims(&Unheeded(&rt)).ok();
 }
