@@ -85,7 +85,7 @@ fn rows(rt: &impl Print) -> io::Result<()> {
 }
 
 // Prints, and drops a write that fails: a line that could not be written is no failure of the payload, and the next is
-// printed all the same.
+// printed all the same. Each program has its own, as T.
 #[derive(Clone, Copy)]
 struct Unheeded<'a, R>(&'a R);
 
